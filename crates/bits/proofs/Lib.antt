@@ -1,0 +1,6 @@
+pub mod Cases
+pub mod Digits
+pub mod Single
+pub mod Bools
+pub mod Words
+pub mod Lists

@@ -1,0 +1,4 @@
+pub mod Computed
+pub mod Values
+pub mod States
+pub mod Tables

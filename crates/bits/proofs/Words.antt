@@ -58,6 +58,10 @@ pub inside-le : (v m : ℕ) → inside v m ≤ m
 unfolding inside
 inside-le v m = and-le-r v m
 
+pub inside-lt-left : (v m : ℕ) → v < 2 ^ 32 → inside v m < 2 ^ 32
+unfolding inside
+inside-lt-left v m h = omega (arith, and-le-l v m)
+
 pub merged-lt : (old word m : ℕ) → m < 2 ^ 32 → merged old word m < 2 ^ 32
 unfolding merged
 merged-lt old word m h = joined-lt (outside old m) (inside word m) (outside-lt old m) (inside-lt word m h)

@@ -2,3 +2,8 @@ pub mod Computed
 pub mod Values
 pub mod States
 pub mod Tables
+pub mod Faults
+pub mod Entries
+pub mod Poked
+pub mod Redraw
+pub mod Lines

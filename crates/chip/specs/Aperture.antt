@@ -8,6 +8,7 @@ use Rattle.bits.specs.Choose.{pick}
 use Rattle.bits.specs.Bit.{bit}
 use Rattle.bits.specs.Word.{laneByte}
 use Rattle.chip.specs.declared.Bytes.{Bytes}
+use Rattle.chip.specs.Units.{atByte}
 
 -- bits 0 and 1 of the control register: 0 standard, 1 byte swapped, 2 half-word swapped, 3 reserved
 unfoldable pub swapOf : ℕ → ℕ
@@ -22,14 +23,19 @@ unfoldable pub laneOf : ℕ → ℕ → ℕ
 laneOf control i = pick (eqb (swapOf control) 1) (3 - i) (pick (eqb (swapOf control) 2) ((i + 2) % 4) i)
 
 -- the four bytes from offset o are fitted
-unfoldable pub reachesMemory : ℕ → ℕ → Bool
-reachesMemory fitted o = leb (o + 4) fitted
+unfoldable pub reachesMemory : ℕ → Bytes → Bool
+reachesMemory fitted o = leb (o .0 + 4) fitted
+
+-- byte o + i
+abbrev pub byteFrom : Bytes → ℕ → Bytes
+byteFrom o i = atByte (o .0 + i)
 
 -- the word that a read gives: byte o + i in its lane
-unfoldable pub wordFrom : ℕ → List ℕ → ℕ → ℕ
-wordFrom control m o =
-    getD m o 0 * 256 ^ laneOf control 0 + getD m (o + 1) 0 * 256 ^ laneOf control 1 + getD m (o + 2) 0 * 256 ^ laneOf control 2
-    + getD m (o + 3) 0 * 256 ^ laneOf control 3
+unfoldable pub inLane : ℕ → List ℕ → Bytes → ℕ → ℕ
+inLane control m o i = getD m (byteFrom o i .0) 0 * 256 ^ laneOf control i
+
+unfoldable pub wordFrom : ℕ → List ℕ → Bytes → ℕ
+wordFrom control m o = inLane control m o 0 + inLane control m o 1 + inLane control m o 2 + inLane control m o 3
 
 -- one byte of memory, and what is stored there
 pub record Put : Type 0 where
@@ -37,12 +43,11 @@ pub record Put : Type 0 where
   pub byte : ℕ
 
 -- byte o + i takes its lane's byte where that lane is enabled
-unfoldable pub putAt : ℕ → ℕ → ℕ → ℕ → ℕ → List Put → List Put
-putAt control o e w i l =
-    pick (bit (laneOf control i) e) (record { at = record { 0 = o + i }; byte = laneByte (laneOf control i) w } ∷ l) l
+unfoldable pub putAt : ℕ → Bytes → ℕ → ℕ → ℕ → List Put → List Put
+putAt control o e w i l = pick (bit (laneOf control i) e) (record { at = byteFrom o i; byte = laneByte (laneOf control i) w } ∷ l) l
 
 -- what a write stores, in the order of the bytes
-unfoldable pub putsOf : ℕ → ℕ → ℕ → ℕ → List Put
+unfoldable pub putsOf : ℕ → Bytes → ℕ → ℕ → List Put
 putsOf control o e w = putAt control o e w 0 (putAt control o e w 1 (putAt control o e w 2 (putAt control o e w 3 [])))
 
 -- memory after a list of stores

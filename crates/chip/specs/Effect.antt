@@ -18,7 +18,9 @@ use Rattle.chip.specs.declared.Place.{Place}
 use Rattle.chip.specs.declared.Place.the-variants.{Register, Address, PaletteData, IndexedData, Window, Config, Blank, Nowhere}
 use Rattle.chip.specs.Row.{Row}
 use Rattle.chip.specs.Region.{regionRow}
-use Rattle.chip.specs.Header.{headerRow, subsystem, onceMoved, onceAfter}
+use Rattle.chip.specs.Units.{atByte}
+use Rattle.chip.specs.Header.{headerRow}
+use Rattle.chip.specs.Subsystem.{headerMoved, headerOnce}
 use Rattle.chip.specs.Indirect.{Entry, indirectEntry, miscControl}
 use Rattle.chip.specs.Register.{movedBits, broughtWord}
 use Rattle.chip.specs.Palette.{entryOf, storeEntry, keptAs, shownAs, partOf}
@@ -45,7 +47,7 @@ seenAt s m o (Register i) = seen (getD (s .values) i 0) (getD (s .knowns) i 0)
 seenAt s m o Address = seen (s .dac .address) (s .dac .known)
 seenAt s m o PaletteData = seenPart (wide s) (s .dac .component) (entryOf (s .palette) (s .dac .address))
 seenAt s m o IndexedData = seen (getD (s .indirect) (s .dac .address) 0) (indirectEntry (s .dac .address) .known)
-seenAt s m o (Window i) = seen (wordFrom (getD (s .values) i 0) m o) full
+seenAt s m o (Window i) = seen (wordFrom (getD (s .values) i 0) m (atByte o)) full
 seenAt s m o (Config i) = seen (getD (s .header) i 0) (headerRow i .known)
 seenAt s m o Blank = seen 0 full
 seenAt s m o Nowhere = seen 0 0
@@ -63,47 +65,40 @@ pub data Effect : Type 0 where
   -- nothing
   idle : Effect
   -- these bits of a register of region 0 take the word's, and become known
-  stored : (row bits word : ℕ) → Effect
+  wroteRegister : (row bits word : ℕ) → Effect
   -- these bits of a header register take the word's, and these halves of the subsystem numbers are fixed
-  configured : (row bits word once : ℕ) → Effect
+  wroteHeader : (row bits word once : ℕ) → Effect
   -- these bits of an indirect register take the word's
-  indexed : (index bits word : ℕ) → Effect
+  wroteIndirect : (index bits word : ℕ) → Effect
   -- the palette address is set
-  aimed : ℕ → Effect
+  setAddress : ℕ → Effect
   -- a palette component is written: the byte as it is stored
-  painted : ℕ → Effect
+  wroteComponent : ℕ → Effect
   -- a palette component is read
-  peeked : Effect
+  readComponent : Effect
   -- memory bytes are stored
-  poked : List Put → Effect
+  wroteMemory : List Put → Effect
 
 -- a read alters nothing but the palette's address, component and stage, and these only where lane 0 is enabled
 unfoldable pub readEffect : Access → Place → Effect
 readEffect a (Register i) = idle
 readEffect a Address = idle
-readEffect a PaletteData = pick (bit 0 (a .enables)) peeked idle
+readEffect a PaletteData = pick (bit 0 (a .enables)) readComponent idle
 readEffect a IndexedData = idle
 readEffect a (Window i) = idle
 readEffect a (Config i) = idle
 readEffect a Blank = idle
 readEffect a Nowhere = idle
 
--- of a header register: which bits a write stores, and which halves are fixed after it
-unfoldable pub headerMoved : ℕ → ℕ → ℕ → ℕ → ℕ
-headerMoved once i e w = pick (eqb i subsystem) (onceMoved once e) (movedBits (headerRow i) (lanesOf e) w)
-
-unfoldable pub headerOnce : ℕ → ℕ → ℕ → ℕ
-headerOnce once i e = pick (eqb i subsystem) (onceAfter once e) once
-
 unfoldable pub writeEffect : State → Access → Place → Effect
-writeEffect s a (Register i) = stored i (movedBits (regionRow i) (lanesOf (a .enables)) (a .word)) (broughtWord (regionRow i) (a .word))
-writeEffect s a Address = pick (bit 0 (a .enables)) (aimed (laneByte 0 (a .word))) idle
-writeEffect s a PaletteData = pick (bit 0 (a .enables)) (painted (keptAs (wide s) (laneByte 0 (a .word)))) idle
+writeEffect s a (Register i) = wroteRegister i (movedBits (regionRow i) (lanesOf (a .enables)) (a .word)) (broughtWord (regionRow i) (a .word))
+writeEffect s a Address = pick (bit 0 (a .enables)) (setAddress (laneByte 0 (a .word))) idle
+writeEffect s a PaletteData = pick (bit 0 (a .enables)) (wroteComponent (keptAs (wide s) (laneByte 0 (a .word)))) idle
 writeEffect s a IndexedData =
-    indexed (s .dac .address) (inside (lanesOf (a .enables)) (indirectEntry (s .dac .address) .writable)) (a .word)
-writeEffect s a (Window i) = poked (putsOf (getD (s .values) i 0) (a .offset) (a .enables) (a .word))
+    wroteIndirect (s .dac .address) (inside (lanesOf (a .enables)) (indirectEntry (s .dac .address) .writable)) (a .word)
+writeEffect s a (Window i) = wroteMemory (putsOf (getD (s .values) i 0) (atByte (a .offset)) (a .enables) (a .word))
 writeEffect s a (Config i) =
-    configured i (headerMoved (s .once) i (a .enables) (a .word)) (broughtWord (headerRow i) (a .word)) (headerOnce (s .once) i (a .enables))
+    wroteHeader i (headerMoved (s .once) i (a .enables) (a .word)) (broughtWord (headerRow i) (a .word)) (headerOnce (s .once) i (a .enables))
 writeEffect s a Blank = idle
 writeEffect s a Nowhere = idle
 
@@ -116,22 +111,22 @@ storedWhen (some c) p e = storeEntry p e c
 
 unfoldable pub stateWith : Effect → State → State
 stateWith idle s = s
-stateWith (stored i bits w) s =
+stateWith (wroteRegister i bits w) s =
     withRegister s i (merged (getD (s .values) i 0) w bits) (joined (getD (s .knowns) i 0) bits)
-stateWith (configured i bits w o) s = withHeader s i (merged (getD (s .header) i 0) w bits) o
-stateWith (indexed i bits w) s = withIndirect s i (merged (getD (s .indirect) i 0) w bits)
-stateWith (aimed v) s = withDac s (aimedAt v) (s .palette)
-stateWith (painted v) s =
+stateWith (wroteHeader i bits w o) s = withHeader s i (merged (getD (s .header) i 0) w bits) o
+stateWith (wroteIndirect i bits w) s = withIndirect s i (merged (getD (s .indirect) i 0) w bits)
+stateWith (setAddress v) s = withDac s (aimedAt v) (s .palette)
+stateWith (wroteComponent v) s =
     withDac s (afterPaint (s .dac) v) (storedWhen (completedBy (s .dac) v) (s .palette) (s .dac .address))
-stateWith peeked s = withDac s (afterPeek (s .dac)) (s .palette)
-stateWith (poked l) s = s
+stateWith readComponent s = withDac s (afterPeek (s .dac)) (s .palette)
+stateWith (wroteMemory l) s = s
 
 unfoldable pub memoryWith : Effect → List ℕ → List ℕ
 memoryWith idle m = m
-memoryWith (stored i bits w) m = m
-memoryWith (configured i bits w o) m = m
-memoryWith (indexed i bits w) m = m
-memoryWith (aimed v) m = m
-memoryWith (painted v) m = m
-memoryWith peeked m = m
-memoryWith (poked l) m = putAll m l
+memoryWith (wroteRegister i bits w) m = m
+memoryWith (wroteHeader i bits w o) m = m
+memoryWith (wroteIndirect i bits w) m = m
+memoryWith (setAddress v) m = m
+memoryWith (wroteComponent v) m = m
+memoryWith readComponent m = m
+memoryWith (wroteMemory l) m = putAll m l

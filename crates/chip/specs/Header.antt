@@ -17,21 +17,21 @@ commandRow = record { offset = 0x04; reads = true; writes = true; writable = 0x6
 unfoldable pub headerRows : List Row
 headerRows =
     readWrite 0x00 0 0x00073D3D full  -- CFGVendorId, CFGDeviceId
-    ∷ commandRow  -- CFGCommand, CFGStatus
+    ∷ commandRow  -- CFGCommand, CFGStatus: bits 1, 2; cleared by one 28, 29
     ∷ readWrite 0x08 0 0x03800001 full  -- CFGRevisionId, CFGClassCode
-    ∷ readWrite 0x0C 0xFF00 0 full  -- CFGCacheLine, CFGLatTimer, CFGHeaderType, CFGBist
-    ∷ readWrite 0x10 0xFFFE0000 0 full  -- CFGBaseAddr0
-    ∷ readWrite 0x14 0xFF800000 0 full  -- CFGBaseAddr1
-    ∷ readWrite 0x18 0xFF800000 0 full  -- CFGBaseAddr2
+    ∷ readWrite 0x0C 0xFF00 0 full  -- CFGCacheLine, CFGLatTimer, CFGHeaderType, CFGBist: bits 8-15
+    ∷ readWrite 0x10 0xFFFE0000 0 full  -- CFGBaseAddr0: bits 17-31
+    ∷ readWrite 0x14 0xFF800000 0 full  -- CFGBaseAddr1: bits 23-31
+    ∷ readWrite 0x18 0xFF800000 0 full  -- CFGBaseAddr2: bits 23-31
     ∷ readWrite 0x28 0 0 full  -- CFGCardBus
-    ∷ readWrite 0x2C 0 0x00073D3D full  -- CFGSubsystemVendorId, CFGSubsystemId: written once, below
-    ∷ readWrite 0x30 0xFFFF0001 0 full  -- CFGRomAddr
-    ∷ readWrite 0x34 0 0 0xFFFFFFBF  -- CFGCapPtr
-    ∷ readWrite 0x3C 0xFF 0x100 0x3F3FFFFF  -- CFGIntLine, CFGIntPin, CFGMinGrant, CFGMaxLat
-    ∷ readWrite 0x40 0 0 0xFFEFFFFD  -- CFGCapID, CFGNextPtr, CFGAGPRev
-    ∷ readWrite 0x44 0 0 0xE0FFFDFE  -- CFGAGPStatus
-    ∷ readWrite 0x48 0xFF000303 0 full  -- CFGAGPCommand
-    ∷ readWrite 0xF8 0xE07FFFFF 0 full  -- CFGIndirectAddress
+    ∷ readWrite 0x2C 0 0x00073D3D full  -- 8 CFGSubsystemVendorId, CFGSubsystemId: written once, see Subsystem
+    ∷ readWrite 0x30 0xFFFF0001 0 full  -- CFGRomAddr: bits 0, 16-31
+    ∷ readWrite 0x34 0 0 0xFFFFFFBF  -- CFGCapPtr: pins 6
+    ∷ readWrite 0x3C 0xFF 0x100 0x3F3FFFFF  -- CFGIntLine, CFGIntPin, CFGMinGrant, CFGMaxLat: bits 0-7; pins 22, 23, 30, 31
+    ∷ readWrite 0x40 0 0 0xFFEFFFFD  -- CFGCapID, CFGNextPtr, CFGAGPRev: pins 1, 20
+    ∷ readWrite 0x44 0 0 0xE0FFFDFE  -- CFGAGPStatus: pins 0, 9, 24-28
+    ∷ readWrite 0x48 0xFF000303 0 full  -- CFGAGPCommand: bits 0, 1, 8, 9, 24-31
+    ∷ readWrite 0xF8 0xE07FFFFF 0 full  -- CFGIndirectAddress: bits 0-22, 29-31
     ∷ readWrite 0xFC full 0 full  -- CFGIndirectData
     ∷ []
 
@@ -45,25 +45,6 @@ headerRow i = getD headerRows i absent
 unfoldable pub headerAt : ℕ → ℕ
 headerAt o = rowOf headerRows o
 
--- ---- the subsystem numbers are written once, each by a write with both of its lanes (01; 2.14.16 and 2.14.17)
-
--- the row of 2Ch; Readings has the fact
+-- the row of 2Ch, which other rules name (proofs/States has the fact)
 abbrev pub subsystem : ℕ
 subsystem = 8
-
--- the two halves as a number: bit 0 the vendor's (lanes 0 and 1), bit 1 the ID's (lanes 2 and 3).
--- Which halves are wholly enabled
-unfoldable pub halvesOf : ℕ → ℕ
-halvesOf e = pick (bit 0 e && bit 1 e) 1 0 + pick (bit 2 e && bit 3 e) 2 0
-
--- the bits of those halves
-unfoldable pub halfBits : ℕ → ℕ
-halfBits n = joined (pick (bit 0 n) 0xFFFF 0) (pick (bit 1 n) 0xFFFF0000 0)
-
--- the bits that a write with enables e stores where the halves in once are fixed already
-unfoldable pub onceMoved : ℕ → ℕ → ℕ
-onceMoved once e = outside (halfBits (halvesOf e)) (halfBits once)
-
--- the halves that are fixed afterwards
-unfoldable pub onceAfter : ℕ → ℕ → ℕ
-onceAfter once e = joined once (halvesOf e)

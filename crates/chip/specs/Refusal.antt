@@ -12,6 +12,7 @@ use Rattle.chip.specs.declared.Place.the-variants.{Register, Address, Pa
 use Rattle.chip.specs.Row.{Row}
 use Rattle.chip.specs.Region.{regionRow}
 use Rattle.chip.specs.Indirect.{Entry, indirectEntry}
+use Rattle.chip.specs.Units.{atByte}
 use Rattle.chip.specs.Dac.{addressKnown}
 use Rattle.chip.specs.Place.{placeOf}
 use Rattle.chip.specs.Aperture.{served, reachesMemory}
@@ -34,38 +35,38 @@ firstOf (x ∷ l) = pick (x .holds) (x .number) (firstOf l)
 unfoldable pub isWrite : Access → Bool
 isWrite a = not (eqb (a .write) 0)
 
--- 5: no register here, or no memory fitted here. While a bit of the address is unknown, there is no palette data and no indexed data
-unfoldable pub nothingAt : State → ℕ → Place → Bool
-nothingAt s o (Register i) = false
-nothingAt s o Address = false
-nothingAt s o PaletteData = not (addressKnown (s .dac))
-nothingAt s o IndexedData = not (addressKnown (s .dac) && indirectEntry (s .dac .address) .exists)
-nothingAt s o (Window i) = not (reachesMemory (s .fitted) o)
-nothingAt s o (Config i) = false
-nothingAt s o Blank = false
-nothingAt s o Nowhere = true
+-- there is a register here, or memory. While a bit of the address is unknown, there is no palette data and no indexed data
+unfoldable pub presentAt : State → ℕ → Place → Bool
+presentAt s o (Register i) = true
+presentAt s o Address = true
+presentAt s o PaletteData = addressKnown (s .dac)
+presentAt s o IndexedData = addressKnown (s .dac) && indirectEntry (s .dac .address) .exists
+presentAt s o (Window i) = reachesMemory (s .fitted) (atByte o)
+presentAt s o (Config i) = true
+presentAt s o Blank = true
+presentAt s o Nowhere = false
 
--- 6: the register has no such direction. The header is written everywhere, and so is every indirect register
-unfoldable pub wrongWay : State → Bool → Place → Bool
-wrongWay s w (Register i) = not (pick w (regionRow i .writes) (regionRow i .reads))
-wrongWay s w Address = false
-wrongWay s w PaletteData = false
-wrongWay s w IndexedData = not (pick w true (indirectEntry (s .dac .address) .reads))
-wrongWay s w (Window i) = false
-wrongWay s w (Config i) = false
-wrongWay s w Blank = false
-wrongWay s w Nowhere = false
+-- the register has this direction. The header is written everywhere, and so is every indirect register
+unfoldable pub wayAt : State → Bool → Place → Bool
+wayAt s w (Register i) = pick w (regionRow i .writes) (regionRow i .reads)
+wayAt s w Address = true
+wayAt s w PaletteData = true
+wayAt s w IndexedData = pick w true (indirectEntry (s .dac .address) .reads)
+wayAt s w (Window i) = true
+wayAt s w (Config i) = true
+wayAt s w Blank = true
+wayAt s w Nowhere = true
 
--- 7: the aperture's mode is not served
-unfoldable pub unserved : State → Place → Bool
-unserved s (Register i) = false
-unserved s Address = false
-unserved s PaletteData = false
-unserved s IndexedData = false
-unserved s (Window i) = not (served (getD (s .values) i 0))
-unserved s (Config i) = false
-unserved s Blank = false
-unserved s Nowhere = false
+-- the aperture's mode is served
+unfoldable pub servedAt : State → Place → Bool
+servedAt s (Register i) = true
+servedAt s Address = true
+servedAt s PaletteData = true
+servedAt s IndexedData = true
+servedAt s (Window i) = served (getD (s .values) i 0)
+servedAt s (Config i) = true
+servedAt s Blank = true
+servedAt s Nowhere = true
 
 -- an access is tested in the order 1 to 7. ml is memory's length in bytes, pl the picture's in words. First the lines after 1: for a state
 -- that is known to be one, they decide
@@ -74,9 +75,9 @@ laterLines s ml pl a =
     line 2 (not (eqb ml (s .fitted) && eqb pl (s .width * s .height)))
     ∷ line 3 (not (leb (a .target) 3 && leb (a .enables) 15))
     ∷ line 4 (not (eqb (a .offset % 4) 0))
-    ∷ line 5 (nothingAt s (a .offset) (placeOf a))
-    ∷ line 6 (wrongWay s (isWrite a) (placeOf a))
-    ∷ line 7 (unserved s (placeOf a))
+    ∷ line 5 (not (presentAt s (a .offset) (placeOf a)))
+    ∷ line 6 (not (wayAt s (isWrite a) (placeOf a)))
+    ∷ line 7 (not (servedAt s (placeOf a)))
     ∷ []
 
 unfoldable pub accessLines : State → ℕ → ℕ → Access → List Line

@@ -12,7 +12,7 @@ pub record Row : Type 0 where
   -- whether it is read, and whether it is written (refusal 6)
   pub reads : Bool
   pub writes : Bool
-  -- the bits that take a write's, and the bits that a write of one clears
+  -- the bits that take a write's, and the bits that a write of one clears. (Of 2Ch neither: it is written by a rule of its own, Subsystem)
   pub writable : ℕ
   pub clears : ℕ
   -- the value at reset, and the bits of it that are known

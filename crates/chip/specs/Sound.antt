@@ -9,7 +9,8 @@ use Rattle.chip.specs.declared.State.{State}
 use Rattle.chip.specs.declared.Dac.{Dac}
 use Rattle.chip.specs.Row.{Row}
 use Rattle.chip.specs.Region.{regionCount, regionRow}
-use Rattle.chip.specs.Header.{headerCount, headerRow, subsystem, halfBits}
+use Rattle.chip.specs.Header.{headerCount, headerRow}
+use Rattle.chip.specs.Subsystem.{headerExempt}
 use Rattle.chip.specs.Indirect.{Entry, indexCount, indirectEntry}
 use Rattle.chip.specs.Register.{mayChange, faults}
 use Rattle.chip.specs.Palette.{paletteOk}
@@ -39,19 +40,24 @@ unfoldable pub regionOk : List ℕ → List ℕ → ℕ → Bool
 regionOk vs ks i =
     eqb (faults (getD vs i 0) (getD ks i 0) (mayChange (regionRow i)) (regionRow i .reset) (regionRow i .known)) 0
 
--- what of a header register is not compared with its reset: what a write may change, and of the subsystem numbers the half that is fixed
-unfoldable pub headerExempt : ℕ → ℕ → ℕ
-headerExempt once i = pick (eqb i subsystem) (halfBits once) (mayChange (headerRow i))
+unfoldable pub regionSound : List ℕ → List ℕ → Bool
+regionSound vs ks = everyTo (regionOk vs ks) regionCount
 
 -- a register of the header; what is known of it is the table's
 unfoldable pub headerOk : ℕ → List ℕ → ℕ → Bool
 headerOk once vs i =
     eqb (faults (getD vs i 0) (headerRow i .known) (headerExempt once i) (headerRow i .reset) (headerRow i .known)) 0
 
+unfoldable pub headerSound : ℕ → List ℕ → Bool
+headerSound once vs = everyTo (headerOk once vs) headerCount
+
 -- an indirect register; what is known of it is the map's
 unfoldable pub indirectOk : List ℕ → ℕ → Bool
 indirectOk vs i =
     eqb (faults (getD vs i 0) (indirectEntry i .known) (indirectEntry i .writable) (indirectEntry i .reset) (indirectEntry i .known)) 0
+
+unfoldable pub indirectSound : List ℕ → Bool
+indirectSound vs = everyTo (indirectOk vs) indexCount
 
 unfoldable pub isState : State → Bool
 isState s =
@@ -61,8 +67,8 @@ isState s =
     ∷ componentOk (s .dac)
     ∷ addressOk (s .dac)
     ∷ onceOk (s .once)
-    ∷ everyTo (regionOk (s .values) (s .knowns)) regionCount
-    ∷ everyTo (headerOk (s .once) (s .header)) headerCount
-    ∷ everyTo (indirectOk (s .indirect)) indexCount
+    ∷ regionSound (s .values) (s .knowns)
+    ∷ headerSound (s .once) (s .header)
+    ∷ indirectSound (s .indirect)
     ∷ paletteOk (s .palette)
     ∷ [])

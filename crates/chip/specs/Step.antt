@@ -65,7 +65,7 @@ givenBy n s m p a = pick (eqb n 0) (doneBy s m p a) (refused n s m p)
 unfoldable pub stepOf : State → List ℕ → List ℕ → Access → Outcome
 stepOf s m p a = givenBy (statusOf s (length m) (length p) a) s m p a
 
--- an access on a state that is known to be one: refusal 1 is not tested
+-- the same for a state that is known to be one: refusal 1 is not tested. After an opening the two are equal, at every access
 unfoldable pub sureOf : State → List ℕ → List ℕ → Access → Outcome
 sureOf s m p a = givenBy (laterStatus s (length m) (length p) a) s m p a
 

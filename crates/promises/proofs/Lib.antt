@@ -1,0 +1,4 @@
+pub mod Keeps
+pub mod Worlds
+pub mod Along
+pub mod Contents

@@ -1,0 +1,41 @@
+-- A state with the memory and the picture that it was opened with.
+use Prim.Native.Nat.{ℕ, _*_, _<_}
+use mathlib.Core.Bool.{Bool, true, false}
+use mathlib.Core.List.{List}
+use mathlib.Core.Path.{_≡_}
+use lib.ListN.{length}
+use Rattle.chip.specs.declared.State.{State}
+use Rattle.chip.specs.declared.Access.{Access}
+use Rattle.chip.specs.Region.{regionCount}
+use Rattle.chip.specs.Header.{headerCount}
+use Rattle.chip.specs.Indirect.{indexCount}
+use Rattle.chip.specs.Palette.{entryCount}
+use Rattle.chip.specs.Sound.{isState}
+use Rattle.chip.specs.Refusal.{statusOf, openingStatus}
+use Rattle.chip.specs.Trace.{World}
+
+-- a state as its type has it: the arrays' lengths, and an address that is a byte
+pub record Formed (s : State) : Type 0 where
+  pub values : length (s .values) ≡ regionCount
+  pub knowns : length (s .knowns) ≡ regionCount
+  pub header : length (s .header) ≡ headerCount
+  pub indirect : length (s .indirect) ≡ indexCount
+  pub red : length (s .palette .red) ≡ entryCount
+  pub green : length (s .palette .green) ≡ entryCount
+  pub blue : length (s .palette .blue) ≡ entryCount
+  pub stored : length (s .palette .stored) ≡ entryCount
+  pub address : s .dac .address < 256
+
+pub record Good (x : World) : Type 0 where
+  pub state : isState (x .state) ≡ true
+  pub formed : Formed (x .state)
+  pub memory : length (x .memory) ≡ x .state .fitted
+  pub picture : length (x .picture) ≡ x .state .width * x .state .height
+
+-- the status of an access made at x
+abbrev pub statusAt : World → Access → ℕ
+statusAt x a = statusOf (x .state) (length (x .memory)) (length (x .picture)) a
+
+-- an opening of w by h dots with memory m and picture p is not refused
+abbrev pub Openable : ℕ → ℕ → List ℕ → List ℕ → Type 0
+Openable w h m p = openingStatus w h (length m) (length p) ≡ 0

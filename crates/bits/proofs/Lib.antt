@@ -4,3 +4,4 @@ pub mod Single
 pub mod Bools
 pub mod Words
 pub mod Lists
+pub mod Lanes

@@ -1,17 +1,17 @@
 -- The words' operations, bit by bit: inside, outside, joined, parted, merged, and the bits of enabled lanes.
 -- Each follows from the bit laws of Single; the lanes by one computed test of the sixteen enables. Assumes nothing.
-use Prim.Native.Nat.{ℕ, zero, suc, _+_, _-_, _*_, _/_, _%_, _^_, _<_, _≤_}
+use Prim.Native.Nat.{ℕ, _-_, _/_, _^_, _<_, _≤_}
 use mathlib.Core.Bool.{Bool, true, false, not, _&&_, _||_, Bool·beq}
-use mathlib.Core.Path.{_≡_, refl, sym, ap, ap₂, _∙_, subst}
+use mathlib.Core.Path.{_≡_, refl, sym, ap, ap₂, _∙_}
 use native.Mathlib.Omega.{arith}
 use borrow.Author.Tests.{ltb-true, ltb-false}
-use lib.Bits.{bitAnd, bitOr, and-le-r, and-le-l, or-lt, or-add-and, xor-lt}
-use lib.Dec.{eqb, ltb}
+use lib.Bits.{and-le-r, and-le-l, or-lt, or-add-and}
+use lib.Dec.{ltb}
 use Rattle.bits.specs.Choose.{pick, everyTo}
 use Rattle.bits.specs.Bit.{bit, differs}
 use Rattle.bits.specs.Word.{full, inside, outside, joined, parted, merged, lanesOf}
 use Rattle.bits.proofs.Cases.{byTest}
-use Rattle.bits.proofs.Single.{bit-and, bit-or, bit-xor, bit-not, bit-of-zero, no-bits, by-bits}
+use Rattle.bits.proofs.Single.{bit-and, bit-or, bit-xor, bit-not, bit-of-zero, no-bits}
 use Rattle.bits.proofs.Bools.{or-not, and-false, and-true, or-false, or-true, every-at}
 
 -- bit b of a mask is clear

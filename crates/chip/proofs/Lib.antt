@@ -7,3 +7,4 @@ pub mod Entries
 pub mod Poked
 pub mod Redraw
 pub mod Lines
+pub mod Lent

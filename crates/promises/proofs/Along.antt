@@ -1,28 +1,21 @@
 -- What a place holds after a list of steps, for any machine: what a step put there last, and else what it held.
 -- By induction on the list, from the law of one step. Assumes nothing.
-use mathlib.Core.List.{List, [], _∷_, _++_}
+use mathlib.Core.List.{List, [], _∷_}
 use mathlib.Core.Logic.{_⊎_, inl, inr}
 use mathlib.Core.Option.{Option, none, some, Option·getD}
 use mathlib.Core.Path.{_≡_, refl, sym, ap, _∙_, subst}
 use Rattle.promises.specs.Along.{runs, laterOf, lastPut, PutLast, PutNever}
 
-module _ {W A C : Type 0} (step : W → A → W) (puts : W → A → Option C) (read : W → C) (Good : W → Type 0)
-    (keeps : (x : W) (a : A) → Good x → Good (step x a))
-    (law : (x : W) (a : A) → Good x → read (step x a) ≡ Option·getD (puts x a) (read x)) where
-  later-else : (p q : Option C) (d : C) → Option·getD (laterOf p q) d ≡ Option·getD p (Option·getD q d)
-  later-else none q d = refl
-  later-else (some v) q d = refl
+-- nothing was put last where nothing was put
+pub later-none : {C : Type 0} (p q : Option C) → laterOf p q ≡ none → (p ≡ none) × (q ≡ none)
+later-none none q e = (refl, e)
+later-none (some v) q e = (cc, cc)
 
-  pub read-along : (x : W) (l : List A) → Good x → read (runs step x l) ≡ Option·getD (lastPut step puts x l) (read x)
-  read-along x [] g = refl
-  read-along x (a ∷ l) g =
-      read-along (step x a) l (keeps x a g) ∙ ap (Option·getD (lastPut step puts (step x a) l)) (law x a g)
-      ∙ sym (later-else (lastPut step puts (step x a) l) (puts x a) (read x))
-
-  record Found (x : W) (l : List A) : Type 0 where
-    value : C
-    last : lastPut step puts x l ≡ some value
-    put : PutLast step puts x l value
+module _ {W A C : Type 0} (step : W → A → W) (puts : W → A → Option C) where
+  pub record Found (x : W) (l : List A) : Type 0 where
+    pub value : C
+    pub last : lastPut step puts x l ≡ some value
+    pub put : PutLast step puts x l value
 
   none-before : (x : W) (a : A) (l : List A) → lastPut step puts (step x a) l ≡ none → (p : Option C) → puts x a ≡ p
       → Found x (a ∷ l) ⊎ (lastPut step puts x (a ∷ l) ≡ none)
@@ -34,7 +27,8 @@ module _ {W A C : Type 0} (step : W → A → W) (puts : W → A → Option C) (
         put = record { before = []; by = a; rest = l; split = refl; put = e; silent = n };
       })
 
-  find : (x : W) (l : List A) → Found x l ⊎ (lastPut step puts x l ≡ none)
+  -- a step of the list put something there last, or none put anything
+  pub find : (x : W) (l : List A) → Found x l ⊎ (lastPut step puts x l ≡ none)
   find x [] = inr refl
   find x (a ∷ l) = go (find (step x a) l)
     where
@@ -55,12 +49,26 @@ module _ {W A C : Type 0} (step : W → A → W) (puts : W → A → Option C) (
           })
       go (inr n) = none-before x a l n (puts x a) refl
 
-  -- what a place holds after a list of steps was put there last by one of them, or was there before and none put anything
+module _ {W A C : Type 0} (step : W → A → W) (puts : W → A → Option C) (read : W → C) (Good : W → Type 0)
+    (keeps : (x : W) (a : A) → Good x → Good (step x a))
+    (law : (x : W) (a : A) → Good x → read (step x a) ≡ Option·getD (puts x a) (read x)) where
+  later-else : (p q : Option C) (d : C) → Option·getD (laterOf p q) d ≡ Option·getD p (Option·getD q d)
+  later-else none q d = refl
+  later-else (some v) q d = refl
+
+  -- what a place holds after a list of steps, in one equation
+  pub read-along : (x : W) (l : List A) → Good x → read (runs step x l) ≡ Option·getD (lastPut step puts x l) (read x)
+  read-along x [] g = refl
+  read-along x (a ∷ l) g =
+      read-along (step x a) l (keeps x a g) ∙ ap (Option·getD (lastPut step puts (step x a) l)) (law x a g)
+      ∙ sym (later-else (lastPut step puts (step x a) l) (puts x a) (read x))
+
+  -- the same with the step shown: it was put there last by one of them, or was there before and none put anything
   pub whence : (x : W) (l : List A) → Good x
       → PutLast step puts x l (read (runs step x l)) ⊎ PutNever step puts x l (read x) (read (runs step x l))
-  whence x l g = go (find x l)
+  whence x l g = go (find step puts x l)
     where
-      go : Found x l ⊎ (lastPut step puts x l ≡ none)
+      go : Found step puts x l ⊎ (lastPut step puts x l ≡ none)
           → PutLast step puts x l (read (runs step x l)) ⊎ PutNever step puts x l (read x) (read (runs step x l))
       go (inl f) =
           inl (subst (PutLast step puts x l) (sym (read-along x l g ∙ ap (λ (q : Option C). Option·getD q (read x)) (f .last))) (f .put))

@@ -1,128 +1,55 @@
 -- What one effect does to a register's bit, to a memory byte and to a palette entry: what it puts there, and else what was there.
 -- By cases on the place and the effect, from the laws of set, of a merged word, of stores and of entries. Assumes nothing.
-use Prim.Native.Nat.{ℕ, zero, suc, _+_, _-_, _*_, _/_, _%_, _^_, _<_, _≤_}
-use mathlib.Core.Bool.{Bool, true, false, not, _&&_, _||_}
+use Prim.Native.Nat.{ℕ, _^_, _<_}
+use mathlib.Core.Bool.{Bool, true, false, not, _&&_}
 use mathlib.Core.List.{List, [], _∷_}
 use mathlib.Core.Option.{Option, none, some, Option·getD}
 use mathlib.Core.Path.{_≡_, refl, sym, ap, ap₂, _∙_, subst}
 use native.Mathlib.Omega.{arith}
-use borrow.Author.Tests.{eqb-true, eqb-false, eq-eqb, leb-true}
-use lib.Dec.{eqb, leb, ltb}
+use borrow.Author.Tests.{eqb-true, eqb-false, eq-eqb}
+use lib.Dec.{eqb}
 use lib.ListN.{getD, set, length, length-set}
 use lib.Seq.{getD-set-same, getD-set-other}
 use Rattle.bits.specs.Choose.{pick}
 use Rattle.bits.specs.Bit.{bit}
-use Rattle.bits.specs.Word.{inside, outside, joined, merged, lanesOf}
-use Rattle.bits.proofs.Cases.{byTest, pick-by, pick-same}
-use Rattle.bits.proofs.Bools.{and-first, and-second, clash}
+use Rattle.bits.specs.Word.{outside, joined, merged}
+use Rattle.bits.proofs.Cases.{byTest, pick-same}
+use Rattle.bits.proofs.Bools.{and-first, and-second}
 use Rattle.bits.proofs.Single.{bit-of-zero}
-use Rattle.bits.proofs.Words.{clear-not, bit-outside, bit-merged, bit-learned, inside-lt, inside-outside, lanes-lt}
+use Rattle.bits.proofs.Words.{clear-not, bit-outside, bit-merged, bit-learned}
 use Rattle.bits.proofs.Lists.{getD-set}
 use Rattle.chip.specs.declared.State.{State}
 use Rattle.chip.specs.declared.Access.{Access}
 use Rattle.chip.specs.declared.Colour.{Colour}
 use Rattle.chip.specs.declared.Palette.{Palette}
-use Rattle.chip.specs.declared.Place.{Place}
-use Rattle.chip.specs.declared.Place.the-variants.{Register, Address, PaletteData, IndexedData, Window, Config, Blank, Nowhere}
-use Rattle.chip.specs.Row.{Row}
-use Rattle.chip.specs.Region.{regionCount, regionRow}
-use Rattle.chip.specs.Header.{headerCount, headerRow, subsystem}
-use Rattle.chip.specs.Subsystem.{onceMoved, headerMoved}
+use Rattle.chip.specs.Region.{regionCount}
+use Rattle.chip.specs.Header.{headerCount, headerRow}
 use Rattle.chip.specs.Indirect.{indexCount, indirectEntry}
-use Rattle.chip.specs.Register.{mayChange, movedBits, broughtWord}
-use Rattle.chip.specs.Palette.{entryCount, entryOf, storeEntry}
+use Rattle.chip.specs.Palette.{entryCount, entryOf}
 use Rattle.chip.specs.Dac.{completedBy}
 use Rattle.chip.specs.Aperture.{Put, putAll}
 use Rattle.chip.specs.State.{withRegister, withHeader, withIndirect, withDac}
-use Rattle.chip.specs.Refusal.{isWrite}
-use Rattle.chip.specs.Effect.{Effect, idle, wroteRegister, wroteHeader, wroteIndirect, setAddress, wroteComponent, readComponent, wroteMemory, wide, readEffect, writeEffect, storedWhen, stateWith, memoryWith}
-use Rattle.chip.specs.Place.{placeOf}
-use Rattle.chip.specs.Step.{effectOf}
+use Rattle.chip.specs.Effect.{Effect, idle, wroteRegister, wroteHeader, wroteIndirect, setAddress, wroteComponent, readComponent, wroteMemory, storedWhen, stateWith, memoryWith}
 use Rattle.chip.specs.Trace.{World, after}
-use Rattle.chip.specs.Rules.{RowRule, EntryRule}
-use Rattle.chip.proofs.Tables.{header-rule, header-known, indirect-rule}
+use Rattle.chip.proofs.Tables.{header-rule, indirect-rule}
 use Rattle.chip.proofs.Entries.{Entries, entry-stored}
-use Rattle.promises.specs.Good.{Formed, Good, statusAt}
+use Rattle.promises.specs.Good.{Formed, Good}
 use Rattle.promises.specs.Along.{laterOf}
 use Rattle.promises.specs.History.{effectAt, seenBit, Spot, region, header, indirect, holds, putIf, putsBit, lastPoke, putsByte, wrapped, putsEntry}
-use Rattle.promises.proofs.Keeps.{moved-lt, moved-within, outside-trans, subsystem-known, once-moved-lt}
+use Rattle.promises.proofs.Proper.{Proper, effect-proper}
 use Rattle.promises.proofs.Worlds.{after-state, after-memory}
-
--- ---- what the effects of accesses are like: they store bits of a word, and of the header and of indirect registers only bits that are known
-
-pub Proper : Effect → Type 0
-Proper idle = Unit {0}
-Proper (wroteRegister i bits w) = bits < 2 ^ 32
-Proper (wroteHeader i bits w o) = (bits < 2 ^ 32) × (i < headerCount → outside bits (headerRow i .known) ≡ 0)
-Proper (wroteIndirect i bits w) = (bits < 2 ^ 32) × (i < indexCount → outside bits (indirectEntry i .known) ≡ 0)
-Proper (setAddress v) = Unit {0}
-Proper (wroteComponent v) = Unit {0}
-Proper readComponent = Unit {0}
-Proper (wroteMemory l) = Unit {0}
-
-header-moved-lt : (o i e w : ℕ) → headerMoved o i e w < 2 ^ 32
-unfolding headerMoved
-header-moved-lt o i e w =
-    pick-by (λ (k : ℕ). k < 2 ^ 32) (eqb i subsystem) (onceMoved o e) (movedBits (headerRow i) (lanesOf e) w) (once-moved-lt o e) (moved-lt (headerRow i) e w)
-
-header-moved-known : (o i e w : ℕ) → i < headerCount → outside (headerMoved o i e w) (headerRow i .known) ≡ 0
-unfolding headerMoved
-header-moved-known o i e w h =
-    byTest (eqb i subsystem)
-    (λ q. simp q
-    (subst (λ (k : ℕ). outside (onceMoved o e) (headerRow k .known) ≡ 0) (sym (eqb-true i subsystem q)) (subsystem-known (onceMoved o e) (once-moved-lt o e))))
-    (λ q. simp q
-    (outside-trans (movedBits (headerRow i) (lanesOf e) w) (mayChange (headerRow i)) (headerRow i .known) (header-rule i h .bits) (header-rule i h .word)
-    (moved-within (headerRow i) (lanesOf e) w (header-rule i h .bits)) (header-known i h)))
-
-indexed-known : (l i : ℕ) → i < indexCount → outside (inside l (indirectEntry i .writable)) (indirectEntry i .known) ≡ 0
-indexed-known l i h =
-    let hw : indirectEntry i .writable < 2 ^ 32 = omega (arith, indirect-rule i h .bits) in
-    let hk : indirectEntry i .known < 2 ^ 32 = omega (arith, indirect-rule i h .byte) in
-    outside-trans (inside l (indirectEntry i .writable)) (indirectEntry i .writable) (indirectEntry i .known) hw hk
-    (inside-outside l (indirectEntry i .writable) hw) (indirect-rule i h .stated)
-
-read-proper : (a : Access) (p : Place) → Proper (readEffect a p)
-unfolding readEffect Proper
-read-proper a (Register i) = tt
-read-proper a Address = tt
-read-proper a PaletteData = pick-by Proper (bit 0 (a .enables)) readComponent idle tt tt
-read-proper a IndexedData = tt
-read-proper a (Window i) = tt
-read-proper a (Config i) = tt
-read-proper a Blank = tt
-read-proper a Nowhere = tt
-
-write-proper : (s : State) (a : Access) (p : Place) → Proper (writeEffect s a p)
-unfolding writeEffect Proper
-write-proper s a (Register i) = moved-lt (regionRow i) (a .enables) (a .word)
-write-proper s a Address = pick-by Proper (bit 0 (a .enables)) _ idle tt tt
-write-proper s a PaletteData = pick-by Proper (bit 0 (a .enables)) _ idle tt tt
-write-proper s a IndexedData =
-    (Rattle.bits.proofs.Words.inside-lt-left (lanesOf (a .enables)) _ (lanes-lt (a .enables)), indexed-known (lanesOf (a .enables)) (s .dac .address))
-write-proper s a (Window i) = tt
-write-proper s a (Config i) =
-    (header-moved-lt (s .once) i (a .enables) (a .word), header-moved-known (s .once) i (a .enables) (a .word))
-write-proper s a Blank = tt
-write-proper s a Nowhere = tt
-
-pub effect-proper : (x : World) (a : Access) → Proper (effectAt x a)
-unfolding effectAt effectOf Proper
-effect-proper x a =
-    pick-by Proper (eqb (statusAt x a) 0) _ idle
-    (pick-by Proper (isWrite a) _ _ (write-proper (x .state) a (placeOf a)) (read-proper a (placeOf a))) tt
 
 -- ---- a register's bit, over plain values
 
 module _ (l : List ℕ) (i r b bits word : ℕ) (hr : r < length l) (hb : b < 32) (hm : bits < 2 ^ 32) where
-  value-set : bit b (getD (set l i (merged (getD l i 0) word bits)) r 0) ≡ pick (eqb i r && bit b bits) (bit b word) (bit b (getD l r 0))
+  pub value-set : bit b (getD (set l i (merged (getD l i 0) word bits)) r 0) ≡ pick (eqb i r && bit b bits) (bit b word) (bit b (getD l r 0))
   value-set =
       byTest (eqb i r)
       (λ q. let d : i ≡ r = eqb-true i r q in
       rw (d, eq-eqb r r refl, getD-set-same l r _ 0 hr, bit-merged b (getD l r 0) word bits hb hm))
       (λ q. let d : r ≡ i → ⊥ = λ z. eqb-false i r q (sym z) in rw (q, getD-set-other l i r _ 0 d))
 
-  known-set : bit b (getD (set l i (joined (getD l i 0) bits)) r 0) ≡ pick (eqb i r && bit b bits) true (bit b (getD l r 0))
+  pub known-set : bit b (getD (set l i (joined (getD l i 0) bits)) r 0) ≡ pick (eqb i r && bit b bits) true (bit b (getD l r 0))
   known-set =
       byTest (eqb i r)
       (λ q. let d : i ≡ r = eqb-true i r q in
@@ -159,7 +86,7 @@ known-of i r b bits k f hb hk hr o t =
 -- ---- a spot after an effect
 
 -- the rows and bits that there are
-pub Real : Spot → Type 0
+unfoldable pub Real : Spot → Type 0
 Real (region r b) = (r < regionCount) × (b < 32)
 Real (header r b) = (r < headerCount) × (b < 32)
 Real (indirect i b) = (i < indexCount) × (b < 32)

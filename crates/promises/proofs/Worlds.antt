@@ -1,40 +1,41 @@
 -- A world is good after every opening that is not refused, and stays good along any list of accesses.
 -- What an access leaves is what its effect makes, refused or not; the effects are in Keeps. Assumes nothing.
-use Prim.Native.Nat.{ℕ, zero, suc, _+_, _*_, _<_, _≤_}
-use mathlib.Core.Bool.{Bool, true, false, not}
+use Prim.Native.Nat.{ℕ, suc, _*_}
+use mathlib.Core.Bool.{Bool, true}
 use mathlib.Core.List.{List, [], _∷_, map}
 use mathlib.Core.Path.{_≡_, refl, sym, ap, ap₂, _∙_, subst}
 use native.Mathlib.Omega.{arith}
 use borrow.Author.Tests.{eqb-true, eq-eqb, not-false}
 use lib.Dec.{eqb}
-use lib.ListN.{getD, length, replicate, length-replicate, length-map}
+use lib.ListN.{length, replicate, length-replicate}
 use Rattle.bits.specs.Choose.{pick}
-use Rattle.bits.proofs.Cases.{byTest, pick-by, pick-when, pick-ap}
+use Rattle.bits.proofs.Cases.{byTest, pick-by, pick-when}
 use Rattle.chip.specs.declared.State.{State}
 use Rattle.chip.specs.declared.Access.{Access}
 use Rattle.chip.specs.Row.{Row}
-use Rattle.chip.specs.Region.{regionRows, regionCount}
-use Rattle.chip.specs.Header.{headerRows, headerCount}
-use Rattle.chip.specs.Indirect.{Entry, indirectMap, indirectEntry, listed, indexCount}
-use Rattle.chip.specs.Palette.{entryCount, emptyPalette, paletteOk, entryOk}
+use Rattle.chip.specs.Region.{regionRows}
+use Rattle.chip.specs.Header.{headerRows}
+use Rattle.chip.specs.Indirect.{Entry, indirectMap}
+use Rattle.chip.specs.Palette.{entryCount, emptyPalette}
 use Rattle.chip.specs.Dac.{resetDac}
-use Rattle.chip.specs.Aperture.{Put, putAll}
 use Rattle.chip.specs.State.{regionResets, regionKnowns, headerResets, indirectResets, resetState, withRegister, withHeader, withIndirect, withDac}
 use Rattle.chip.specs.Sound.{panelOk, memoryOk, isState}
-use Rattle.chip.specs.Refusal.{isWrite, statusOf, openingLines, openingStatus}
+use Rattle.chip.specs.Refusal.{isWrite, openingLines, openingStatus}
 use Rattle.chip.specs.Effect.{Effect, idle, wroteRegister, wroteHeader, wroteIndirect, setAddress, wroteComponent, readComponent, wroteMemory, readEffect, writeEffect, stateWith, memoryWith}
-use Rattle.chip.specs.Picture.{wordOf, redrawn}
 use Rattle.chip.specs.Place.{placeOf}
 use Rattle.chip.specs.Step.{Outcome, Opening, refused, settled, effectOf, stateAfter, memoryAfter, doneBy, givenBy, stepOf, blankWord, openOf}
-use Rattle.chip.specs.Trace.{World, opened, step, after, run}
+use Rattle.chip.specs.Trace.{World, opened, after, run}
 use Rattle.chip.proofs.Computed.{computed}
 use Rattle.chip.proofs.Lines.{none-holds}
 use Rattle.chip.proofs.Tables.{region-length, header-length, map-length}
 use Rattle.chip.proofs.Poked.{putAll-length}
 use Rattle.chip.proofs.Redraw.{redrawn-length}
-use Rattle.promises.specs.Good.{Formed, Good, statusAt, Openable}
+use Rattle.promises.specs.Good.{Formed, Good, AreBytes, statusAt, Openable}
 use Rattle.promises.specs.History.{effectAt}
-use Rattle.promises.proofs.Keeps.{Sane, sane, is-state, found, Kept, idle-kept, read-kept, write-kept}
+use Rattle.promises.proofs.Sane.{Sane, sane, is-state}
+use Rattle.chip.proofs.Lent.{stores-small}
+use Rattle.promises.proofs.Proper.{Proper, effect-proper}
+use Rattle.promises.proofs.Keeps.{found, Kept, idle-kept, read-kept, write-kept}
 
 -- ---- what an access leaves
 
@@ -114,6 +115,17 @@ picture-length x a =
     pick-by (λ (o : Outcome). length (o .picture) ≡ length (x .picture)) (eqb (statusAt x a) 0) _ _
     (redrawn-length _ _ (x .picture)) refl
 
+bytes-with : (e : Effect) (m : List ℕ) → Proper e → AreBytes m → AreBytes (memoryWith e m)
+unfolding memoryWith Proper
+bytes-with idle m q h = h
+bytes-with (wroteRegister i b w) m q h = h
+bytes-with (wroteHeader i b w o) m q h = h
+bytes-with (wroteIndirect i b w) m q h = h
+bytes-with (setAddress v) m q h = h
+bytes-with (wroteComponent v) m q h = h
+bytes-with readComponent m q h = h
+bytes-with (wroteMemory l) m q h = stores-small m l q h
+
 -- every access keeps a good world good
 pub good-kept : (x : World) (a : Access) → Good x → Good (after x a)
 good-kept x a g =
@@ -124,6 +136,7 @@ good-kept x a g =
       formed = k .formed;
       memory = memory-length x a ∙ g .memory ∙ sym (z .fitted);
       picture = picture-length x a ∙ g .picture ∙ sym (ap₂ (λ (w h : ℕ). w * h) (z .width) (z .height));
+      bytes = subst AreBytes (sym (after-memory x a)) (bytes-with (effectAt x a) (x .memory) (effect-proper x a) (g .bytes));
     }
 
 pub good-along : (x : World) (l : List Access) → Good x → Good (run x l)
@@ -162,9 +175,9 @@ reset-sane w h f p q =
 opening-parts : (w h : ℕ) (m p : List ℕ) → Openable w h m p → (panelOk w h ≡ true) × (memoryOk (length m) ≡ true) × (length p ≡ w * h)
 unfolding openingStatus openingLines
 opening-parts w h m p o = (
-  not-false (panelOk w h) (none-holds (openingLines w h (length m) (length p)) refl o 0),
-  not-false (memoryOk (length m)) (none-holds (openingLines w h (length m) (length p)) refl o 1),
-  eqb-true (length p) (w * h) (not-false (eqb (length p) (w * h)) (none-holds (openingLines w h (length m) (length p)) refl o 2)),
+  not-false (panelOk w h) (none-holds (openingLines w h (length m) (length p)) refl (o .accepted) 0),
+  not-false (memoryOk (length m)) (none-holds (openingLines w h (length m) (length p)) refl (o .accepted) 1),
+  eqb-true (length p) (w * h) (not-false (eqb (length p) (w * h)) (none-holds (openingLines w h (length m) (length p)) refl (o .accepted) 2)),
 )
 
 -- what an opening that is not refused leaves
@@ -177,7 +190,7 @@ pub record Fresh (w h : ℕ) (m p : List ℕ) : Type 0 where
 pub opens : (w h : ℕ) (m p : List ℕ) → Openable w h m p → Fresh w h m p
 unfolding openOf
 opens w h m p o =
-    let q : eqb (openingStatus w h (length m) (length p)) 0 ≡ true = eq-eqb _ 0 o in
+    let q : eqb (openingStatus w h (length m) (length p)) 0 ≡ true = eq-eqb _ 0 (o .accepted) in
     record {
       status = ap (λ (t : Bool). pick t (done) (left) .answer .status) q;
       state = ap (λ (t : Bool). pick t (done) (left) .answer .state) q;
@@ -202,4 +215,5 @@ opened-good w h m p o =
       memory = ap length (f .memory) ∙ sym (ap (λ (s : State). s .fitted) (f .state));
       picture =
           ap length (f .picture) ∙ length-replicate (w * h) blankWord ∙ sym (ap (λ (s : State). s .width * s .height) (f .state));
+      bytes = subst AreBytes (sym (f .memory)) (o .bytes);
     }

@@ -1,9 +1,9 @@
 -- A state with the memory and the picture that it was opened with.
 use Prim.Native.Nat.{ℕ, _*_, _<_}
-use mathlib.Core.Bool.{Bool, true, false}
+use mathlib.Core.Bool.{true}
 use mathlib.Core.List.{List}
 use mathlib.Core.Path.{_≡_}
-use lib.ListN.{length}
+use lib.ListN.{getD, length}
 use Rattle.chip.specs.declared.State.{State}
 use Rattle.chip.specs.declared.Access.{Access}
 use Rattle.chip.specs.Region.{regionCount}
@@ -26,16 +26,22 @@ pub record Formed (s : State) : Type 0 where
   pub stored : length (s .palette .stored) ≡ entryCount
   pub address : s .dac .address < 256
 
+-- memory as its type has it
+abbrev pub AreBytes : List ℕ → Type 0
+AreBytes m = (k : ℕ) → getD m k 0 < 256
+
 pub record Good (x : World) : Type 0 where
   pub state : isState (x .state) ≡ true
   pub formed : Formed (x .state)
   pub memory : length (x .memory) ≡ x .state .fitted
   pub picture : length (x .picture) ≡ x .state .width * x .state .height
+  pub bytes : AreBytes (x .memory)
 
 -- the status of an access made at x
 abbrev pub statusAt : World → Access → ℕ
 statusAt x a = statusOf (x .state) (length (x .memory)) (length (x .picture)) a
 
 -- an opening of w by h dots with memory m and picture p is not refused
-abbrev pub Openable : ℕ → ℕ → List ℕ → List ℕ → Type 0
-Openable w h m p = openingStatus w h (length m) (length p) ≡ 0
+pub record Openable (w h : ℕ) (m p : List ℕ) : Type 0 where
+  pub accepted : openingStatus w h (length m) (length p) ≡ 0
+  pub bytes : AreBytes m

@@ -1,11 +1,10 @@
 -- What an access, made at a world, puts where: the words in which a known bit's origin is told.
-use Prim.Native.Nat.{ℕ, _+_, _-_, _*_, _/_, _%_, _<_, _≤_}
-use mathlib.Core.Bool.{Bool, true, false, not, _&&_}
+use Prim.Native.Nat.{ℕ, _+_}
+use mathlib.Core.Bool.{Bool, _&&_}
 use mathlib.Core.List.{List, [], _∷_}
 use mathlib.Core.Option.{Option, none, some}
-use mathlib.Core.Path.{_≡_}
-use lib.Dec.{eqb, leb, ltb}
-use lib.ListN.{getD, length}
+use lib.Dec.{eqb}
+use lib.ListN.{getD}
 use Rattle.bits.specs.Choose.{pick}
 use Rattle.bits.specs.Bit.{bit}
 use Rattle.chip.specs.declared.State.{State}
@@ -15,13 +14,13 @@ use Rattle.chip.specs.declared.Colour.{Colour}
 use Rattle.chip.specs.Region.{regionRow}
 use Rattle.chip.specs.Header.{headerRow}
 use Rattle.chip.specs.Indirect.{indirectEntry}
-use Rattle.chip.specs.Row.{Row}
-use Rattle.chip.specs.Palette.{entryOf}
-use Rattle.chip.specs.Dac.{completedBy}
+use Rattle.chip.specs.Palette.{shownAs, partOf}
+use Rattle.chip.specs.declared.Dac.{Dac}
+use Rattle.chip.specs.Dac.{aimedAt, afterPeek, afterPaint, completedBy}
 use Rattle.chip.specs.Aperture.{Put}
 use Rattle.chip.specs.Effect.{Effect, idle, wroteRegister, wroteHeader, wroteIndirect, setAddress, wroteComponent, readComponent, wroteMemory}
 use Rattle.chip.specs.Step.{effectOf}
-use Rattle.chip.specs.Trace.{World}
+use Rattle.chip.specs.Trace.{World, after}
 use Rattle.promises.specs.Good.{statusAt}
 use Rattle.promises.specs.Along.{laterOf}
 
@@ -36,6 +35,11 @@ seenBit known value = pick known (some value) none
 -- what an answer shows at bit b
 unfoldable pub shows : Answer → ℕ → Option Bool
 shows r b = seenBit (bit b (r .known)) (bit b (r .word))
+
+-- a bit of component c of a palette entry, as the width shows it: of an entry never stored nothing, and nothing above bit 7
+unfoldable pub partBit : Bool → ℕ → ℕ → Option Colour → Option Bool
+partBit w c b none = none
+partBit w c b (some x) = seenBit (bit b 0xFF) (bit b (shownAs w (partOf c x)))
 
 -- ---- bits of registers: region 0's, the header's, indirect ones
 
@@ -119,3 +123,43 @@ putsEntry e s (setAddress v) = none
 putsEntry e s (wroteComponent v) = pick (eqb (s .dac .address) e) (wrapped (completedBy (s .dac) v)) none
 putsEntry e s readComponent = none
 putsEntry e s (wroteMemory l) = none
+
+-- ---- the palette's address, component and stage
+
+-- what an access leaves of them, if it is one to the address or to palette data
+unfoldable pub putsDac : State → Effect → Option Dac
+putsDac s idle = none
+putsDac s (wroteRegister i bits w) = none
+putsDac s (wroteHeader i bits w o) = none
+putsDac s (wroteIndirect i bits w) = none
+putsDac s (setAddress v) = some (aimedAt v)
+putsDac s (wroteComponent v) = some (afterPaint (s .dac) v)
+putsDac s readComponent = some (afterPeek (s .dac))
+putsDac s (wroteMemory l) = none
+
+-- the address that an access sets
+unfoldable pub putsAim : Effect → Option ℕ
+putsAim idle = none
+putsAim (wroteRegister i bits w) = none
+putsAim (wroteHeader i bits w o) = none
+putsAim (wroteIndirect i bits w) = none
+putsAim (setAddress v) = some v
+putsAim (wroteComponent v) = none
+putsAim readComponent = none
+putsAim (wroteMemory l) = none
+
+-- 1 for an access to palette data, read or written, that is done
+unfoldable pub dataStep : Effect → ℕ
+dataStep idle = 0
+dataStep (wroteRegister i bits w) = 0
+dataStep (wroteHeader i bits w o) = 0
+dataStep (wroteIndirect i bits w) = 0
+dataStep (setAddress v) = 0
+dataStep (wroteComponent v) = 1
+dataStep readComponent = 1
+dataStep (wroteMemory l) = 0
+
+-- how many such accesses a list has
+abbrev pub dataSteps : World → List Access → ℕ
+dataSteps x [] = 0
+dataSteps x (a ∷ l) = dataStep (effectAt x a) + dataSteps (after x a) l

@@ -1,0 +1,27 @@
+-- Promise 2. An opening that is not refused gives a state, the picture all 03000000h and memory as lent; every access keeps a state a state.
+-- From the laws of a good world. Assumes nothing.
+use Prim.Native.Nat.{ℕ}
+use mathlib.Core.Bool.{true}
+use mathlib.Core.List.{List}
+use mathlib.Core.Path.{_≡_}
+use Rattle.chip.specs.declared.Access.{Access}
+use Rattle.chip.specs.Sound.{isState}
+use Rattle.chip.specs.Trace.{World, opened, after, run}
+use Rattle.promises.specs.Good.{Good, Openable}
+use Rattle.promises.proofs.Worlds.{Fresh, opens, good-kept, good-along, opened-good}
+
+-- what an opening leaves: status 0, the reset state, memory as lent, 03000000h at every dot
+pub opening-gives : (w h : ℕ) (m p : List ℕ) → Openable w h m p → Fresh w h m p
+opening-gives = opens
+
+-- it is a state, with memory and picture of its sizes
+pub opening-good : (w h : ℕ) (m p : List ℕ) → Openable w h m p → Good (opened w h m p)
+opening-good = opened-good
+
+-- every access, accepted or refused, leaves it so
+pub access-good : (x : World) (a : Access) → Good x → Good (after x a)
+access-good = good-kept
+
+-- so there is a state after an opening and any list of accesses: refusal 1 is never met
+pub always-state : (w h : ℕ) (m p : List ℕ) → Openable w h m p → (l : List Access) → isState (run (opened w h m p) l .state) ≡ true
+always-state w h m p o l = good-along (opened w h m p) l (opened-good w h m p o) .state

@@ -1,0 +1,244 @@
+-- Promise 4. Where a known bit comes from, after an opening and any list of accesses: the reset tables, PCI's rule for offsets without a register, memory as
+-- lent, accepted writes of the list, and the palette address since it was set; nothing else is ever shown as known, and each has the value last stored.
+-- From the law of a place along any list (Along), one step at a time (Contents), and what a read shows (Shown). Assumes nothing.
+use Prim.Native.Nat.{ℕ, zero, suc, _+_, _/_, _%_, _<_}
+use mathlib.Core.Bool.{Bool, false}
+use mathlib.Core.List.{List}
+use mathlib.Core.Logic.{_⊎_, inl, inr}
+use mathlib.Core.Option.{Option, none, some, Option·getD}
+use mathlib.Core.Path.{_≡_, refl, sym, ap, _∙_, subst}
+use native.Mathlib.Omega.{arith}
+use lib.ListN.{getD, length, replicate}
+use Rattle.bits.specs.Choose.{pick}
+use Rattle.bits.specs.Bit.{bit}
+use Rattle.chip.specs.declared.State.{State}
+use Rattle.chip.specs.declared.Access.{Access}
+use Rattle.chip.specs.declared.Colour.{Colour}
+use Rattle.chip.specs.declared.Place.the-variants.{Register, Address, PaletteData, IndexedData, Window, Config, Blank}
+use Rattle.chip.specs.Palette.{entryCount, emptyPalette, entryOf}
+use Rattle.chip.specs.Dac.{resetDac}
+use Rattle.chip.specs.Aperture.{laneOf}
+use Rattle.chip.specs.State.{resetState}
+use Rattle.chip.specs.Place.{placeOf}
+use Rattle.chip.specs.Effect.{wide, wroteComponent}
+use Rattle.chip.specs.Trace.{World, opened, step, after, run}
+use Rattle.promises.specs.Good.{Good, Openable}
+use Rattle.promises.specs.Along.{runs, lastPut, PutLast, PutNever}
+use Rattle.promises.specs.History.{effectAt, seenBit, shows, partBit, Spot, region, header, indirect, holds, stated}
+use Rattle.promises.specs.Origin.{bitPut, bytePut, entryPut, aimPut, latest, BitStored, BitStated, ByteStored, ByteLent, AddressSet, AddressAt, Three, WritesComponent}
+use Rattle.promises.proofs.Along.{read-along, whence}
+use Rattle.promises.proofs.Worlds.{good-kept, good-along, opened-good, opens, memory-length}
+use Rattle.promises.proofs.Contents.{Real, spot-step, byte-step, entry-step}
+use Rattle.promises.proofs.Shown.{Accepted, shows-register, shows-header, shows-blank, shows-indexed, shows-address, shows-palette, shows-memory}
+use Rattle.promises.proofs.Address.{run-runs, SetBy, set-or-not, set-at, never-set}
+use Rattle.promises.proofs.ThreeWrites.{three}
+use Rattle.promises.proofs.Origins.{register-row, config-row, opened-holds, puts-stores, puts-pokes, writes-component}
+
+-- an empty palette has no entry
+zeros-at : (n k : ℕ) → _≡_ {A = ℕ} (getD (replicate n 0) k 0) 0
+zeros-at zero zero = refl
+zeros-at zero (suc k) = refl
+zeros-at (suc n) zero = refl
+zeros-at (suc n) (suc k) = zeros-at n k
+
+reset-entry : (w h f e : ℕ) → entryOf (resetState w h f .palette) e ≡ none
+unfolding resetState emptyPalette entryOf
+reset-entry w h f e = simp (zeros-at entryCount e)
+
+module _ (w h : ℕ) (m p : List ℕ) (o : Openable w h m p) (l : List Access) where
+  good : Good (run (opened w h m p) l)
+  good = good-along (opened w h m p) l (opened-good w h m p o)
+
+  -- what the openings' parts are
+  abbrev Long : ℕ → World → Type 0
+  Long k x = k < length (x .memory)
+
+  long-kept : (k : ℕ) (x : World) (a : Access) → Long k x → Long k (after x a)
+  long-kept k x a hk = omega (arith, memory-length x a)
+
+  opened-long : (k : ℕ) → k < length m → Long k (opened w h m p)
+  opened-long k hk = omega (arith, ap length (opens w h m p o .memory))
+
+  opened-entry : (e : ℕ) → entryOf (opened w h m p .state .palette) e ≡ none
+  opened-entry e = ap (λ (s : State). entryOf (s .palette) e) (opens w h m p o .state) ∙ reset-entry w h (length m) e
+
+  opened-stage : opened w h m p .state .dac .staged ≡ 0
+  unfolding resetState resetDac
+  opened-stage = ap (λ (s : State). s .dac .staged) (opens w h m p o .state)
+
+  -- ---- registers: region 0's, the header's, indirect ones
+
+  -- a bit holds what the list stored there last, and else what the reset tables state
+  pub bit-held : (q : Spot) → Real q → holds (run (opened w h m p) l .state) q ≡ latest (bitPut q) (opened w h m p) l (stated q)
+  bit-held q r =
+      ap (λ (x : World). holds (x .state) q) (sym (run-runs (opened w h m p) l))
+      ∙ read-along after (bitPut q) (λ (x : World). holds (x .state) q) Good good-kept (spot-step q r) (opened w h m p) l (opened-good w h m p o)
+      ∙ ap (Option·getD (lastPut after (bitPut q) (opened w h m p) l)) (opened-holds w h m p o q r)
+
+  -- where a bit is known, an accepted write of the list stored it last, or none did and the tables state it
+  pub bit-origin : (q : Spot) → Real q → (v : Bool) → holds (run (opened w h m p) l .state) q ≡ some v
+      → BitStored (opened w h m p) l q v ⊎ BitStated (opened w h m p) l q v
+  bit-origin q r v e = go (whence after (bitPut q) (λ (x : World). holds (x .state) q) Good good-kept (spot-step q r) (opened w h m p) l (opened-good w h m p o))
+    where
+      final : holds (runs after (opened w h m p) l .state) q ≡ some v
+      final = ap (λ (x : World). holds (x .state) q) (run-runs (opened w h m p) l) ∙ e
+
+      some-is : (x y : Bool) → some x ≡ some y → x ≡ y
+      some-is x y e = ap (λ (z : Option Bool). Option·getD z x) e
+
+      go : PutLast after (bitPut q) (opened w h m p) l (holds (runs after (opened w h m p) l .state) q)
+          ⊎ PutNever after (bitPut q) (opened w h m p) l (holds (opened w h m p .state) q) (holds (runs after (opened w h m p) l .state) q)
+          → BitStored (opened w h m p) l q v ⊎ BitStated (opened w h m p) l q v
+      go (inl f) =
+          let b : runs after (opened w h m p) (f .before) ≡ run (opened w h m p) (f .before) = run-runs (opened w h m p) (f .before) in
+          let z = puts-stores (run (opened w h m p) (f .before)) (f .by) q (some v)
+          (good-along (opened w h m p) (f .before) (opened-good w h m p o)) r
+          (subst (λ (y : World). bitPut q y (f .by) ≡ some (some v)) b (f .put ∙ ap some final)) in
+          inl (record {
+            before = f .before;
+            by = f .by;
+            rest = f .rest;
+            split = f .split;
+            accepted = z .accepted;
+            write = z .write;
+            reached = z .reached;
+            value = some-is v _ (z .value);
+            silent = subst (λ (y : World). lastPut after (bitPut q) (after y (f .by)) (f .rest) ≡ none) b (f .silent);
+          })
+      go (inr n) = inr (record { silent = n .silent; value = sym (opened-holds w h m p o q r) ∙ sym (n .same) ∙ final })
+
+  -- ---- memory
+
+  -- a byte holds what the list stored there last, and else what was lent
+  pub byte-held : (k : ℕ) → k < length m → getD (run (opened w h m p) l .memory) k 0 ≡ latest (bytePut k) (opened w h m p) l (getD m k 0)
+  byte-held k hk =
+      ap (λ (x : World). getD (x .memory) k 0) (sym (run-runs (opened w h m p) l))
+      ∙ read-along after (bytePut k) (λ (x : World). getD (x .memory) k 0) (Long k) (long-kept k) (byte-step k) (opened w h m p) l (opened-long k hk)
+      ∙ ap (Option·getD (lastPut after (bytePut k) (opened w h m p) l)) (ap (λ (n : List ℕ). getD n k 0) (opens w h m p o .memory))
+
+  pub byte-origin : (k : ℕ) → k < length m
+      → ByteStored (opened w h m p) l k (getD (run (opened w h m p) l .memory) k 0)
+      ⊎ ByteLent (opened w h m p) l k (getD (run (opened w h m p) l .memory) k 0)
+  byte-origin k hk =
+      go (whence after (bytePut k) (λ (x : World). getD (x .memory) k 0) (Long k) (long-kept k) (byte-step k) (opened w h m p) l (opened-long k hk))
+    where
+      same : getD (runs after (opened w h m p) l .memory) k 0 ≡ getD (run (opened w h m p) l .memory) k 0
+      same = ap (λ (x : World). getD (x .memory) k 0) (run-runs (opened w h m p) l)
+
+      go : PutLast after (bytePut k) (opened w h m p) l (getD (runs after (opened w h m p) l .memory) k 0)
+          ⊎ PutNever after (bytePut k) (opened w h m p) l (getD (opened w h m p .memory) k 0) (getD (runs after (opened w h m p) l .memory) k 0)
+          → ByteStored (opened w h m p) l k (getD (run (opened w h m p) l .memory) k 0)
+          ⊎ ByteLent (opened w h m p) l k (getD (run (opened w h m p) l .memory) k 0)
+      go (inl f) =
+          let b : runs after (opened w h m p) (f .before) ≡ run (opened w h m p) (f .before) = run-runs (opened w h m p) (f .before) in
+          let z = puts-pokes (run (opened w h m p) (f .before)) (f .by) k (getD (run (opened w h m p) l .memory) k 0)
+          (subst (λ (y : World). bytePut k y (f .by) ≡ some (getD (run (opened w h m p) l .memory) k 0)) b (f .put ∙ ap some same)) in
+          inl (record {
+            before = f .before;
+            by = f .by;
+            rest = f .rest;
+            split = f .split;
+            accepted = z .accepted;
+            reached = z .reached;
+            window = z .window;
+            through = z .through;
+            value = z .value;
+            silent = subst (λ (y : World). lastPut after (bytePut k) (after y (f .by)) (f .rest) ≡ none) b (f .silent);
+          })
+      go (inr n) = inr (record { silent = n .silent; value = sym (n .same) ∙ same })
+
+  -- ---- the palette's address
+
+  -- it is unknown, every bit of it, until an access sets it; then every bit is known, and it is the value set plus one for each completed third component,
+  -- modulo 256, with the component that is left
+  pub address-unset : lastPut after aimPut (opened w h m p) l ≡ none → run (opened w h m p) l .state .dac .known ≡ 0
+  address-unset = never-set w h m p o l
+
+  pub address-set : (v n : ℕ) → AddressSet (opened w h m p) l v n → AddressAt (run (opened w h m p) l .state .dac) v n
+  address-set v n s = set-at (opened w h m p) l (opened-good w h m p o) v n s
+
+  pub address-origin : SetBy (opened w h m p) l ⊎ (lastPut after aimPut (opened w h m p) l ≡ none)
+  address-origin = set-or-not (opened w h m p) l
+
+  -- ---- palette entries
+
+  -- an entry holds the colour that was completed there last, and was never stored where none was
+  pub entry-held : (e : ℕ) → e < entryCount
+      → entryOf (run (opened w h m p) l .state .palette) e ≡ latest (entryPut e) (opened w h m p) l none
+  entry-held e he =
+      ap (λ (x : World). entryOf (x .state .palette) e) (sym (run-runs (opened w h m p) l))
+      ∙ read-along after (entryPut e) (λ (x : World). entryOf (x .state .palette) e) Good good-kept (entry-step e he) (opened w h m p) l (opened-good w h m p o)
+      ∙ ap (Option·getD (lastPut after (entryPut e) (opened w h m p) l)) (opened-entry e)
+
+  -- a colour comes from three writes of the list, red, green and blue, with nothing of the palette between them
+  pub entry-origin : (e : ℕ) → e < entryCount → (c : Colour) → entryOf (run (opened w h m p) l .state .palette) e ≡ some c
+      → Three (opened w h m p) l e c
+  entry-origin e he c q = three (opened w h m p) l e c (opened-good w h m p o) he opened-stage (opened-entry e) q
+
+  -- ---- what a read shows, from the list alone
+
+  module _ (a : Access) (b : ℕ) (q : Accepted (run (opened w h m p) l) a) (hb : b < 32) where
+    pub register-read : (r : ℕ) → placeOf a ≡ Register r
+        → shows (step (run (opened w h m p) l) a .answer) b
+        ≡ pick (bit (b / 8) (a .enables)) (latest (bitPut (region r b)) (opened w h m p) l (stated (region r b))) none
+    unfolding Real
+    register-read r e =
+        shows-register (run (opened w h m p) l) a b q hb r e
+        ∙ ap (λ (z : Option Bool). pick (bit (b / 8) (a .enables)) z none) (bit-held (region r b) (register-row a r e, hb))
+
+    pub header-read : (r : ℕ) → placeOf a ≡ Config r
+        → shows (step (run (opened w h m p) l) a .answer) b
+        ≡ pick (bit (b / 8) (a .enables)) (latest (bitPut (header r b)) (opened w h m p) l (stated (header r b))) none
+    unfolding Real
+    header-read r e =
+        shows-header (run (opened w h m p) l) a b q hb r e
+        ∙ ap (λ (z : Option Bool). pick (bit (b / 8) (a .enables)) z none) (bit-held (header r b) (config-row a r e, hb))
+
+    -- an offset of the header without a register: zero, known, by PCI
+    pub blank-read : placeOf a ≡ Blank
+        → shows (step (run (opened w h m p) l) a .answer) b ≡ pick (bit (b / 8) (a .enables)) (some false) none
+    blank-read e = shows-blank (run (opened w h m p) l) a b q hb e
+
+    -- indexed data: the register that the address names
+    pub indexed-read : placeOf a ≡ IndexedData
+        → shows (step (run (opened w h m p) l) a .answer) b
+        ≡ pick (bit (b / 8) (a .enables))
+        (latest (bitPut (indirect (run (opened w h m p) l .state .dac .address) b)) (opened w h m p) l (stated (indirect (run (opened w h m p) l .state .dac .address) b)))
+        none
+    unfolding Real
+    indexed-read e =
+        shows-indexed (run (opened w h m p) l) a b q hb e
+        ∙ ap (λ (z : Option Bool). pick (bit (b / 8) (a .enables)) z none)
+        (bit-held (indirect (run (opened w h m p) l .state .dac .address) b) (good .formed .address, hb))
+
+    -- the address: the bits of it that are known
+    pub address-read : placeOf a ≡ Address
+        → shows (step (run (opened w h m p) l) a .answer) b
+        ≡ pick (bit (b / 8) (a .enables))
+        (seenBit (bit b (run (opened w h m p) l .state .dac .known)) (bit b (run (opened w h m p) l .state .dac .address))) none
+    address-read e = shows-address (run (opened w h m p) l) a b q hb e
+
+    -- palette data: a component of the entry that the address names, as the present width shows it
+    pub palette-read : placeOf a ≡ PaletteData
+        → shows (step (run (opened w h m p) l) a .answer) b
+        ≡ pick (bit (b / 8) (a .enables))
+        (partBit (wide (run (opened w h m p) l .state)) (run (opened w h m p) l .state .dac .component) b
+        (latest (entryPut (run (opened w h m p) l .state .dac .address)) (opened w h m p) l none)) none
+    palette-read e =
+        shows-palette (run (opened w h m p) l) a b q hb e
+        ∙ ap
+        (λ (c : Option Colour).
+        pick (bit (b / 8) (a .enables)) (partBit (wide (run (opened w h m p) l .state)) (run (opened w h m p) l .state .dac .component) b c) none)
+        (entry-held (run (opened w h m p) l .state .dac .address) (good .formed .address))
+
+    -- memory: the bit of the byte that exchanges with its lane
+    pub memory-read : (i : ℕ) → placeOf a ≡ Window i
+        → shows (step (run (opened w h m p) l) a .answer) b
+        ≡ pick (bit (b / 8) (a .enables))
+        (some (bit (b % 8) (getD (run (opened w h m p) l .memory) (a .offset + laneOf (getD (run (opened w h m p) l .state .values) i 0) (b / 8)) 0)))
+        none
+    memory-read i e = shows-memory (run (opened w h m p) l) a b q hb good i e
+
+-- a write of a component, as the three writes of an entry name it, is an accepted write of palette data with lane 0
+pub component-origin : (x : World) (a : Access) (v : ℕ) → effectAt x a ≡ wroteComponent v → WritesComponent x a v
+component-origin = writes-component

@@ -5,3 +5,4 @@ pub mod Bools
 pub mod Words
 pub mod Lists
 pub mod Lanes
+pub mod OneOutcome

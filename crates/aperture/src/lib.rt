@@ -1,0 +1,110 @@
+// Memory through an aperture: which modes are served, which lane each memory byte exchanges with, and the word that a read gives.
+// A place is a byte offset as the access names it; sums of it are made in 64 bits, so that none wraps.
+use bits::bit_of;
+use bits::lane_byte;
+ghost use mathlib.Core.Path.{_≡_};
+ghost use Prim.Native.Nat.{_+_, _*_};
+ghost use lib.ListN.{getD};
+ghost use Rattle.bits.specs.Bit.{bit};
+ghost use Rattle.bits.specs.Word.{laneByte};
+ghost use Rattle.chip.specs.Units.{atByte};
+ghost use Rattle.chip.specs.Aperture.{served, laneOf, reachesMemory, wordFrom};
+
+// Whether the aperture's mode is served: no reserved swap code, no packed 16-bit mode, no SVGA and no ROM access.
+pub fn mode_served(control: u32) -> bool
+    ensures { λ r. ⌜ r ≡ served control ⌝ }
+{
+    if control % 4 == 3 {
+        return false;
+    }
+    if bit_of(3, control) {
+        return false;
+    }
+    if bit_of(8, control) {
+        return false;
+    }
+    !bit_of(9, control)
+}
+
+// The lane that memory byte o + i exchanges with. Past byte 3 there is none: what it gives there is what the definition gives.
+pub fn lane_of(control: u32, i: u32) -> u32
+    ensures { λ r. ⌜ r ≡ laneOf control i ⌝ }
+{
+    let swap = control % 4;
+    if swap == 1 {
+        if 3 < i {
+            return 0;
+        }
+        return 3 - i;
+    }
+    if swap == 2 {
+        return (i % 4 + 2) % 4;
+    }
+    i
+}
+
+// Whether memory byte o + i takes its lane's byte: the enable is that lane's.
+pub fn lane_put(control: u32, e: u32, i: u32) -> bool
+    ensures { λ r. ⌜ r ≡ bit (laneOf control i) e ⌝ }
+{
+    let lane = lane_of(control, i);
+    bit_of(lane, e)
+}
+
+// The byte that it takes.
+pub fn lane_value(control: u32, w: u32, i: u32) -> u8
+    ensures { λ r. ⌜ r ≡ laneByte (laneOf control i) w ⌝ }
+{
+    let lane = lane_of(control, i);
+    lane_byte(lane, w)
+}
+
+// Whether the four bytes from offset o are fitted.
+pub fn reaches_memory(fitted: u32, o: u32) -> bool
+    ensures { λ r. ⌜ r ≡ reachesMemory fitted (atByte o) ⌝ }
+{
+    (o as u64) + 4 <= (fitted as u64)
+}
+
+// The byte at k, and 0 past the end.
+pub fn byte_at(memory: &[u8], k: u64) -> u8
+    ensures { λ r. ⌜ r ≡ getD (now (memory .entry)) k 0 ⌝ }
+{
+    let at = k as usize;
+    if memory.len() <= at {
+        return 0;
+    }
+    memory[at]
+}
+
+fn wide(b: u8) -> u32
+    ensures { λ r. ⌜ r ≡ b ⌝ }
+{
+    b as u32
+}
+
+// Four bytes in their lanes, the first in lane 0.
+fn four_lanes(a: u8, b: u8, c: u8, d: u8) -> u32
+    ensures { λ r. ⌜ r ≡ a + b * 256 + c * 65536 + d * 16777216 ⌝ }
+{
+    wide(a) + wide(b) * 256 + wide(c) * 65536 + wide(d) * 16777216
+}
+
+// The word that a read gives: byte o + i in its lane.
+pub fn word_from(control: u32, memory: &[u8], o: u32) -> u32
+    ensures { λ r. ⌜ r ≡ wordFrom control (now (memory .entry)) (atByte o) ⌝ }
+{
+    let k = o as u64;
+    let a = byte_at(memory, k);
+    let b = byte_at(memory, k + 1);
+    let c = byte_at(memory, k + 2);
+    let d = byte_at(memory, k + 3);
+    let swap = control % 4;
+    if swap == 1 {
+        return four_lanes(d, c, b, a);
+    }
+    if swap == 2 {
+        return four_lanes(c, d, a, b);
+    }
+    four_lanes(a, b, c, d)
+}

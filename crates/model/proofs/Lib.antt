@@ -1,0 +1,7 @@
+pub mod DoneLaws
+pub mod QuietLaws
+pub mod SeenLaws
+pub mod TestLaws
+pub mod WriteLaws
+pub mod WindowLaws
+pub mod OpenLaws

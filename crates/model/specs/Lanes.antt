@@ -1,0 +1,23 @@
+-- One lane of a write through an aperture.
+use Prim.Native.Nat.{ℕ, _+_}
+use mathlib.Core.Bool.{true}
+use mathlib.Core.List.{List}
+use mathlib.Core.Path.{_≡_}
+use lib.ListN.{set}
+use Rattle.bits.specs.Choose.{pick}
+use Rattle.bits.specs.Bit.{bit}
+use Rattle.bits.specs.Word.{laneByte}
+use Rattle.chip.specs.declared.State.{State}
+use Rattle.chip.specs.declared.Access.{Access}
+use Rattle.chip.specs.Aperture.{laneOf}
+use Rattle.chip.specs.Picture.{wordOf}
+use Rattle.picture.specs.Draw.{Redraws}
+
+-- memory after lane i: byte o + i takes its lane's byte where that lane is enabled
+unfoldable pub laneIn : ℕ → Access → ℕ → List ℕ → List ℕ
+laneIn control a i m =
+    pick (bit (laneOf control i) (a .enables)) (set m (a .offset + i) (laneByte (laneOf control i) (a .word))) m
+
+pub record LaneIn (s : State) (control : ℕ) (a : Access) (i : ℕ) (m p : List ℕ) (r : ℕ) (m′ p′ : List ℕ) : Type 0 where
+  pub memory : m′ ≡ laneIn control a i m
+  pub drawn : Redraws true (wordOf s m) (wordOf s (laneIn control a i m)) p r p′

@@ -1,0 +1,60 @@
+// A write through an aperture: each enabled lane's byte, and the dots that show it.
+ghost use mathlib.Core.Path.{_≡_};
+ghost use mathlib.Core.Bool.{true};
+ghost use Prim.Native.Nat.{ℕ, _<_};
+ghost use lib.ListN.{getD, length};
+ghost use Rattle.chip.specs.Units.{atByte};
+ghost use Rattle.chip.specs.Aperture.{putsOf, putAll};
+ghost use Rattle.chip.specs.Step.{settled, Gives};
+ghost use Rattle.picture.specs.Draw.{fits};
+ghost use Rattle.model.specs.Lanes.{LaneIn};
+use chip::Access;
+use chip::Answer;
+use chip::State;
+
+fn write_lane(
+    s: State,
+    control: u32,
+    a: Access,
+    i: u32,
+    memory: &mut [u8],
+    picture: &mut [u32],
+) -> u32
+    requires { ⌜ fits s s (length (now picture)) ≡ true ⌝ }
+    ensures { λ r. ⌜ LaneIn s control a i (now (memory .entry)) (now (picture .entry)) r (now (memory .exit)) (now (picture .exit)) ⌝ }
+{
+    if aperture::lane_put(control, a.enables, i) {
+        return picture::poke::poke(
+            s,
+            memory,
+            picture,
+            (a.offset as u64) + (i as u64),
+            aperture::lane_value(control, a.word, i),
+        );
+    }
+    0
+}
+
+pub(crate) fn write_window(
+    s: State,
+    a: Access,
+    row: usize,
+    memory: &mut [u8],
+    picture: &mut [u32],
+) -> Answer
+    requires { ⌜ fits s s (length (now picture)) ≡ true ⌝ }
+    ensures { λ r. ⌜ Gives (settled s (now (memory .entry)) (now (picture .entry)) s (putAll (now (memory .entry)) (putsOf (getD (s .values) row 0) (atByte (a .offset)) (a .enables) (a .word))) 0 0) r (now (memory .exit)) (now (picture .exit)) ⌝ }
+{
+    let control = crate::held::value_at(s, row);
+    let n0 = write_lane(s, control, a, 0, memory, picture);
+    let n1 = write_lane(s, control, a, 1, memory, picture);
+    let n2 = write_lane(s, control, a, 2, memory, picture);
+    let n3 = write_lane(s, control, a, 3, memory, picture);
+    Answer {
+        status: 0,
+        word: 0,
+        known: 0,
+        changed: n0 + n1 + n2 + n3,
+        state: s,
+    }
+}

@@ -1,0 +1,4 @@
+pub mod DacLaws
+pub mod EntryLaws
+pub mod AccessLaws
+pub mod OneOutcome

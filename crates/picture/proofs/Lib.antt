@@ -1,0 +1,9 @@
+pub mod FitLaws
+pub mod OneOutcome
+pub mod Parts
+pub mod PokeLaws
+pub mod RowLaws
+pub mod RowsLaws
+pub mod SpanLaws
+pub mod TouchLaws
+pub mod ViewLaws

@@ -1,0 +1,120 @@
+-- What a store of one byte does to the dots' words: those whose byte it is go from the old byte's word to the new one's, and no other changes.
+-- From the rules, by where a dot's byte lies. Assumes nothing.
+use Prim.Native.Nat.{ℕ, _+_, _/_, _%_, _<_, _≤_}
+use mathlib.Core.Bool.{Bool, true, false}
+use mathlib.Core.List.{List}
+use mathlib.Core.Path.{_≡_, refl, sym, ap, ap₂, _∙_, subst}
+use native.Mathlib.Omega.{arith}
+use borrow.Author.Tests.{eqb-true, eqb-false, eq-eqb, lt-leb}
+use lib.Dec.{eqb, leb}
+use lib.ListN.{getD, set, length, length-set}
+use lib.Seq.{getD-set-same, getD-set-other, set-out}
+use Rattle.bits.specs.Choose.{pick}
+use Rattle.bits.specs.Word.{inside}
+use Rattle.bits.proofs.Cases.{byTest}
+use Rattle.chip.specs.declared.State.{State}
+use Rattle.chip.specs.declared.Units.{Units}
+use Rattle.chip.specs.Units.{atByte}
+use Rattle.chip.specs.Palette.{entryOf}
+use Rattle.chip.specs.Picture.{baseOf, strideOf, rowStart, dotByte, maskOf, notIndexed, unplaced, beyond, colourWord, dotEntry, underByte, underAt, laidAt, wordAt, wordOf, chosen}
+use Rattle.picture.specs.Draw.{fits, Redraws, Part, fixedOf}
+use Rattle.picture.specs.Poke.{Pokes, byteWord, rowByte, hits}
+use Rattle.picture.proofs.Parts.{part-idle, part-like, part-redraws, no-redraw}
+use Rattle.picture.proofs.ViewLaws.{rules}
+use Rattle.picture.proofs.TouchLaws.{hit, miss}
+
+-- ---- the word of a byte in memory
+
+fitted : (s : State) (m : List ℕ) (at : ℕ) → at < length m → underByte s m (atByte at) ≡ byteWord s (getD m at 0)
+unfolding underByte beyond dotEntry byteWord fixedOf
+fitted s m at h = simp (lt-leb (length m) at h) (sym (rules (notIndexed s) (unplaced s) true _))
+
+-- where the byte of dot j lies
+abbrev placeOf : State → ℕ → ℕ
+placeOf s j = rowByte (baseOf s .0) (strideOf s .0) (j / s .width) + j % s .width
+
+placed : (s : State) (m : List ℕ) (j : ℕ) → wordOf s m j ≡ underByte s m (atByte (placeOf s j))
+unfolding wordOf wordAt laidAt underAt dotByte rowStart
+placed s m j = refl
+
+module _ (s : State) (m : List ℕ) (at v j : ℕ) where
+  -- another byte's dot
+  other : (placeOf s j ≡ at → ⊥) → wordOf s m j ≡ wordOf s (set m at v) j
+  unfolding underByte beyond dotEntry
+  other d =
+      placed s m j
+      ∙ ap₂ (λ (x n : ℕ). pick (notIndexed s) 0x03000000 (pick (unplaced s) 0x05000000 (pick (leb n (placeOf s j)) 0x02000000 (colourWord (entryOf (s .palette) (inside x (maskOf s)))))))
+      (sym (getD-set-other m at (placeOf s j) v 0 d)) (sym (length-set m at v))
+      ∙ sym (placed s (set m at v) j)
+
+  module _ (h : at < length m) (e : placeOf s j ≡ at) where
+    old : wordOf s m j ≡ byteWord s (getD m at 0)
+    old = placed s m j ∙ ap (λ (x : ℕ). underByte s m (atByte x)) e ∙ fitted s m at h
+
+    new : wordOf s (set m at v) j ≡ byteWord s v
+    new =
+        placed s (set m at v) j ∙ ap (λ (x : ℕ). underByte s (set m at v) (atByte x)) e
+        ∙ fitted s (set m at v) at (omega (arith, length-set m at v)) ∙ ap (byteWord s) (getD-set-same m at v 0 h)
+
+-- ---- the redraw
+
+-- equal words choose what stands there, whichever they are
+unchanged : (a b c d w : ℕ) → a ≡ b → c ≡ d → chosen a b w ≡ chosen c d w
+unchanged a b c d w p q = simp (eq-eqb a b p, eq-eqb c d q)
+
+-- where no word changes
+still-redraws : (t : Bool) (f g : ℕ → ℕ) (l : List ℕ) → ((j : ℕ) → f j ≡ g j) → Redraws t f g l 0 l
+still-redraws t f g l h =
+    byTest t (λ e. part-redraws t f g (length l) l 0 l e (omega arith) (part-idle f g 0 (length l) l (λ j p q k. h j))) (λ e. no-redraw t f g l e)
+
+-- base and stride as a state has them
+pub as-placed : (s : State) (base stride : Units) (w at a b x y : ℕ) (l : List ℕ) (r : ℕ) (l′ : List ℕ) → base ≡ baseOf s → stride ≡ strideOf s
+    → Part (hits (base .0) (stride .0) w at a) (hits (base .0) (stride .0) w at b) x y l r l′
+    → Part (hits (baseOf s .0) (strideOf s .0) w at a) (hits (baseOf s .0) (strideOf s .0) w at b) x y l r l′
+as-placed s base stride w at a b x y l r l′ eb es p =
+    subst (λ (k : Units). Part (hits (baseOf s .0) (k .0) w at a) (hits (baseOf s .0) (k .0) w at b) x y l r l′) es
+    (subst (λ (k : Units). Part (hits (k .0) (stride .0) w at a) (hits (k .0) (stride .0) w at b) x y l r l′) eb p)
+
+module _ (s : State) (m p : List ℕ) (at v : ℕ) where
+  -- past memory's end
+  pub poked-out : length m ≤ at → Pokes s at v m p 0 m p
+  poked-out h =
+      let e : set m at v ≡ m = set-out m at v h in
+      record {
+        memory = sym e;
+        drawn = still-redraws _ _ _ p (λ j. ap (λ (k : List ℕ). wordOf s k j) (sym e));
+      }
+
+  -- a panel or picture that does not fit
+  pub poked-unfit : fits s s (length p) ≡ false → Pokes s at v m p 0 (set m at v) p
+  poked-unfit e = record { memory = refl; drawn = no-redraw _ _ _ p e }
+
+  module _ (a b : ℕ) (h : at < length m) (ea : a ≡ byteWord s (getD m at 0)) (eb : b ≡ byteWord s v) where
+    -- two bytes of one word
+    pub poked-same : a ≡ b → Pokes s at v m p 0 (set m at v) p
+    poked-same e =
+        record {
+          memory = refl;
+          drawn = still-redraws _ _ _ p (λ j. byTest (eqb (placeOf s j) at)
+              (λ q. let z : placeOf s j ≡ at = eqb-true (placeOf s j) at q in old s m at v j h z ∙ sym ea ∙ e ∙ eb ∙ sym (new s m at v j h z))
+              (λ q. other s m at v j (eqb-false (placeOf s j) at q)));
+        }
+
+    -- the dots of the byte, from its old word to its new one
+    pub poked : (n r : ℕ) (p′ : List ℕ) → fits s s (length p) ≡ true → length p ≤ n
+        → Part (hits (baseOf s .0) (strideOf s .0) (s .width) at a) (hits (baseOf s .0) (strideOf s .0) (s .width) at b) 0 n p r p′
+        → Pokes s at v m p r (set m at v) p′
+    poked n r p′ f k d =
+        record {
+          memory = refl;
+          drawn = part-redraws _ _ _ n p r p′ f k
+              (part-like _ _ (wordOf s m) (wordOf s (set m at v)) 0 n p r p′
+              (λ j x y z w. byTest (eqb (placeOf s j) at)
+              (λ q. let i : placeOf s j ≡ at = eqb-true (placeOf s j) at q in
+              ap₂ (λ (x y : ℕ). chosen x y w)
+              (hit (baseOf s .0) (strideOf s .0) (s .width) at a j i ∙ ea ∙ sym (old s m at v j h i))
+              (hit (baseOf s .0) (strideOf s .0) (s .width) at b j i ∙ eb ∙ sym (new s m at v j h i)))
+              (λ q. let i : placeOf s j ≡ at → ⊥ = eqb-false (placeOf s j) at q in
+              unchanged _ _ _ _ w (miss (baseOf s .0) (strideOf s .0) (s .width) at a b j i) (other s m at v j i)))
+              d);
+        }

@@ -1,0 +1,7 @@
+// The picture: dots' words by the rules, and the redraw of those that change and of no others.
+mod dot; // dot.rt: one dot's word, and one dot's store
+pub mod poke; // poke.rt: one byte of memory, and the dots that show it
+pub mod redraw; // redraw.rt: a redraw for a change of state
+mod rows; // rows.rt: every dot of the picture
+mod span; // span.rt: the rows that hold a byte
+mod view; // view.rt: what of a state the picture reads, and its table of words

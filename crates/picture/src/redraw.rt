@@ -1,0 +1,96 @@
+// A redraw for a change of state: one pass over the panel, and nothing where panel and picture do not fit.
+ghost use mathlib.Core.Bool.{true};
+ghost use mathlib.Core.Path.{_≡_};
+ghost use Prim.Native.Nat.{_*_};
+ghost use lib.ListN.{length};
+ghost use Rattle.chip.specs.Sound.{panelOk};
+ghost use Rattle.chip.specs.Picture.{maskOf, wordOf};
+ghost use Rattle.picture.specs.Draw.{fits, Redraws, Part, fixedOf, pastOf, TableFrom};
+use crate::view::base_of;
+use crate::view::fixed_of;
+use crate::view::mask_of;
+use crate::view::stride_of;
+use crate::view::table_from;
+use chip::State;
+
+fn past_of(fixed: u32) -> u32
+    ensures { λ r. ⌜ r ≡ pastOf fixed ⌝ }
+{
+    if fixed == 0 { 0x02000000 } else { fixed }
+}
+
+fn table_of(s: State) -> [u32; 256]
+    ensures { λ r. ⌜ TableFrom (fixedOf s) (maskOf s) (s .palette) 256 r ⌝ }
+{
+    table_from(
+        fixed_of(s),
+        mask_of(s),
+        &s.palette.red,
+        &s.palette.green,
+        &s.palette.blue,
+        &s.palette.stored,
+    )
+}
+
+pub fn panel_fits(width: u32, height: u32) -> bool
+    ensures { λ r. ⌜ r ≡ panelOk width height ⌝ }
+{
+    if width < 1 {
+        return false;
+    }
+    if 1024 < width {
+        return false;
+    }
+    if height < 1 {
+        return false;
+    }
+    height <= 1024
+}
+
+pub(crate) fn both_fit(s: State, n: State, size: usize) -> bool
+    ensures { λ r. ⌜ r ≡ fits s n size ⌝ }
+{
+    if !panel_fits(s.width, s.height) {
+        return false;
+    }
+    if n.width != s.width {
+        return false;
+    }
+    size == (s.width * s.height) as usize
+}
+
+fn redraw_fit<'a>(s: State, n: State, memory: &'a [u8], picture: &mut [u32]) -> u32
+    requires { ⌜ fits s n (length (now picture)) ≡ true ⌝ }
+    ensures { λ r. ⌜ Part (wordOf s (now (memory .entry))) (wordOf n (now (memory .entry))) 0 (s .height * s .width) (now (picture .entry)) r (now (picture .exit)) ⌝ }
+{
+    let t0 = table_of(s);
+    let t1 = table_of(n);
+    let b0 = base_of(s);
+    let b1 = base_of(n);
+    let k0 = stride_of(s);
+    let k1 = stride_of(n);
+    crate::rows::draw_rows(
+        past_of(fixed_of(s)),
+        b0.0,
+        k0.0,
+        &t0,
+        past_of(fixed_of(n)),
+        b1.0,
+        k1.0,
+        &t1,
+        s.width as usize,
+        s.height as usize,
+        memory,
+        picture,
+    )
+}
+
+// The dots whose word differs between the two states take the new one; the number of words that changed.
+pub fn redraw<'a>(s: State, n: State, memory: &'a [u8], picture: &mut [u32]) -> u32
+    ensures { λ r. ⌜ Redraws (fits s n (length (now (picture .entry)))) (wordOf s (now (memory .entry))) (wordOf n (now (memory .entry))) (now (picture .entry)) r (now (picture .exit)) ⌝ }
+{
+    if both_fit(s, n, picture.len()) {
+        return redraw_fit(s, n, memory, picture);
+    }
+    0
+}

@@ -1,0 +1,10 @@
+pub mod Searches
+pub mod Gathers
+pub mod Filled
+pub mod Plain
+pub mod RegionRows
+pub mod HeaderRows
+pub mod PackedEntries
+pub mod Changed
+pub mod Places
+pub mod OneOutcome

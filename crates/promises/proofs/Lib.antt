@@ -24,3 +24,5 @@ pub mod Promise4Origins
 pub mod Promise5Picture
 pub mod Promise6Altered
 pub mod Promise7Depends
+pub mod Promise8Code
+pub mod Calls

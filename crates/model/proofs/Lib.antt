@@ -5,3 +5,4 @@ pub mod TestLaws
 pub mod WriteLaws
 pub mod WindowLaws
 pub mod OpenLaws
+pub mod OneOutcome

@@ -1,0 +1,33 @@
+-- `speed::unsigned`: the cast loses nothing, since the number is above zero. Assumes nothing.
+use mathlib.Core.Path.{_≡_, sym, subst}
+use mathlib.Core.Bool.{true}
+use lib.IntN.{ℤ, pos, negsuc}
+use lib.Dec.{T}
+use lib.Signed.{ltZ, nonNeg}
+use mir.Syntax.{w64}
+use mir.Val.{toZ, ofZ}
+use mir.Facts.{fits-natAbs, sfits-toZ, fits-ofZ}
+use borrow.Author.Needs.{needs}
+use Rattle.speed.proofs.unsigned.Statement.{statement}
+use Rattle.speed.proofs.unsigned.Tie as tie
+
+-- the test `t > 0`, on the number that the machine reads back from t's bits
+positive : (z : ℤ) → ltZ (pos 0) z ≡ true → T (nonNeg z)
+positive (pos n) e = tt
+positive (negsuc n) e = subst T (sym e) tt
+
+cast-result : tie.Need-cast-result
+cast-result c =
+    (positive (toZ w64 (ofZ w64 (c .before .args .t))) (c .if1 .taken), fits-natAbs {w = w64} {w′ = w64} tt (sfits-toZ (fits-ofZ (c .before .fits .t))))
+
+cast-result-2 : tie.Need-cast-result-2
+cast-result-2 c = search needs
+
+returns : tie.Need-returns
+returns c = search needs
+
+returns-2 : tie.Need-returns-2
+returns-2 c = search needs
+
+pub unsigned-spec : {M : Type 1} → statement M
+unsigned-spec = tie.close (tie.spec cast-result cast-result-2 returns returns-2)

@@ -1,0 +1,61 @@
+-- `speed::writes`: the loop keeps both lengths. Assumes nothing.
+use mathlib.Core.Path.{_≡_, refl, _∙_}
+use Prim.Native.Nat.{_-_}
+use native.Mathlib.Omega.{arith}
+use borrow.Author.Needs.{needs}
+use lib.ListN.{length}
+use Rattle.speed.proofs.writes.Statement.{statement}
+use Rattle.speed.proofs.writes.Tie as tie
+
+abbrev Inv-loop : tie.InvT-loop
+Inv-loop step memory₀ picture₀ t₀ dots₀ i₀ memory picture t dots i = (length memory ≡ length memory₀) × (length picture ≡ length picture₀)
+
+abbrev μ-loop : tie.MeasureT-loop
+μ-loop step memory₀ picture₀ t₀ dots₀ i₀ memory picture t dots i = 100000 - i
+
+loop-holds : tie.Need-loop-holds Inv-loop μ-loop
+loop-holds c = (refl, refl)
+
+nth-requires : tie.Need-nth-requires Inv-loop μ-loop
+nth-requires c κs = search needs
+
+access-requires : tie.Need-access-requires Inv-loop μ-loop
+access-requires c κs = search needs
+
+wrapping-add-u32-requires : tie.Need-wrapping-add-u32-requires Inv-loop μ-loop
+wrapping-add-u32-requires c κs = search needs
+
+add-i : tie.Need-add-i Inv-loop μ-loop
+add-i c = search needs
+
+loop-less : tie.Need-loop-less Inv-loop μ-loop
+loop-less c = search needs
+
+loop-again : tie.Need-loop-again Inv-loop μ-loop
+loop-again c = search needs
+
+same-length : tie.Need-same-length Inv-loop μ-loop
+same-length c = search needs
+
+same-length-2 : tie.Need-same-length-2 Inv-loop μ-loop
+same-length-2 c = search needs
+
+returns : tie.Need-returns Inv-loop μ-loop
+returns c = search needs
+
+pub writes-spec : {M : Type 1} → statement M
+writes-spec =
+    tie.close
+    (tie.spec
+    Inv-loop
+    μ-loop
+    loop-holds
+    nth-requires
+    access-requires
+    wrapping-add-u32-requires
+    add-i
+    loop-less
+    loop-again
+    same-length
+    same-length-2
+    returns)

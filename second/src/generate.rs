@@ -1,20 +1,14 @@
 //! Random traces. A trace is a row of scenes; each scene plays one part of the
 //! chip, most of them with a picture that is really drawn.
 
+use crate::offsets::{
+    BYPASS_WRITE_MASK, INDEXED_DATA, PALETTE_DATA, PALETTE_READ_ADDRESS, PALETTE_WRITE_ADDRESS,
+    PIXEL_MASK, SCREEN_BASE, SCREEN_BASE_RIGHT, SCREEN_STRIDE, VIDEO_CONTROL,
+};
 use crate::rng::Rng;
 use crate::tables::REGION0;
 use crate::trace::Setup;
 
-const PALETTE_WRITE_ADDRESS: u32 = 0x4000;
-const PALETTE_DATA: u32 = 0x4008;
-const PIXEL_MASK: u32 = 0x4010;
-const PALETTE_READ_ADDRESS: u32 = 0x4018;
-const INDEXED_DATA: u32 = 0x4050;
-const SCREEN_BASE: u32 = 0x3000;
-const SCREEN_STRIDE: u32 = 0x3008;
-const VIDEO_CONTROL: u32 = 0x3058;
-const SCREEN_BASE_RIGHT: u32 = 0x3080;
-const BYPASS_WRITE_MASK: u32 = 0x1100;
 const APERTURE_CONTROLS: [u32; 2] = [0x50, 0x58];
 
 /// The indices at which an indirect register exists.

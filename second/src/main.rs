@@ -9,6 +9,7 @@ mod check;
 mod generate;
 mod model;
 mod net;
+mod offsets;
 mod picture;
 mod rng;
 mod selftest;

@@ -8,6 +8,7 @@ use std::cell::Cell;
 
 use crate::bits::{byte_of, lane, lanes, Bits};
 use crate::breaks::{Break, Rule};
+use crate::offsets::{APERTURE_ONE_CONTROL, APERTURE_TWO_CONTROL, BYPASS_WRITE_MASK};
 use crate::picture::UNDRAWN;
 use crate::state::{memory_fits, side_fits, Entry, Stage, State};
 use crate::tables::{Kind, Tables, MISC_CONTROL, SUBSYSTEM};
@@ -27,10 +28,6 @@ pub const REGION_ZERO: u32 = 0;
 pub const APERTURE_ONE: u32 = 1;
 pub const APERTURE_TWO: u32 = 2;
 pub const CONFIGURATION: u32 = 3;
-
-const APERTURE_ONE_CONTROL: u32 = 0x50;
-const APERTURE_TWO_CONTROL: u32 = 0x58;
-const BYPASS_WRITE_MASK: u32 = 0x1100;
 
 #[derive(Clone, Copy, PartialEq, Eq, Debug)]
 pub struct Access {

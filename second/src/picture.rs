@@ -2,6 +2,10 @@
 
 use crate::breaks::Rule;
 use crate::model::{Access, Model, APERTURE_ONE, APERTURE_TWO, REGION_ZERO};
+use crate::offsets::{
+    APERTURE_ONE_CONTROL, INDEXED_DATA, PALETTE_DATA, PIXEL_MASK, SCREEN_BASE, SCREEN_BASE_RIGHT,
+    SCREEN_STRIDE, VIDEO_CONTROL,
+};
 use crate::state::State;
 use crate::tables::{COLOR_MODE, MISC_CONTROL, PALETTE_PAGE};
 
@@ -15,15 +19,6 @@ pub const BEYOND: u32 = 0x0200_0000;
 pub const NEVER_STORED: u32 = 0x0400_0000;
 /// A colour; red, green and blue follow.
 pub const COLOUR: u32 = 0x0100_0000;
-
-const APERTURE_ONE_CONTROL: u32 = 0x50;
-const SCREEN_BASE: u32 = 0x3000;
-const SCREEN_STRIDE: u32 = 0x3008;
-const VIDEO_CONTROL: u32 = 0x3058;
-const SCREEN_BASE_RIGHT: u32 = 0x3080;
-const PALETTE_DATA: u32 = 0x4008;
-const PIXEL_MASK: u32 = 0x4010;
-const INDEXED_DATA: u32 = 0x4050;
 
 /// A number of units of eight bytes.
 #[derive(Clone, Copy)]

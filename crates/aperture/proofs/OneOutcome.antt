@@ -1,6 +1,7 @@
 -- Any two outcomes that the contract of a public function allows are equal: modes, lanes and words of the apertures.
 -- Each contract is an equation for the result, and one law says that two results of one equation are equal. Assumes nothing.
-use mathlib.Core.Path.{_≡_, sym, _∙_}
+use mathlib.Core.Path.{_≡_}
+use Rattle.bits.proofs.Cases.{same-value}
 use contract.Lifetimes.{Lfts}
 use denote.Triple.Clauses.{AtExit}
 use borrow.Fn.Kinds as kinds
@@ -27,41 +28,37 @@ use Rattle.aperture.proofs.word_from as word-from
 use Rattle.aperture.proofs.word_from.Reads as word-from-reads
 use Rattle.aperture.proofs.word_from.Kinds as word-from-kinds
 
--- what two contracts of one equation give
-same : {A : Type 0} {o r r′ : A} → r ≡ o → r′ ≡ o → r ≡ r′
-same p q = p ∙ sym q
-
 pub mode-served-one : (κs : Lfts 0) (a : ArgsD mode-served.signature κs) (r r′ : ResD mode-served.signature κs)
     (x x′ : AtExit (kinds.endedOf 0 mode-served-kinds.ps mode-served-kinds.r) κs)
     → mode-served-reads.Post κs a r x → mode-served-reads.Post κs a r′ x′ → r ≡ r′
-mode-served-one κs a r r′ x x′ p q = same p q
+mode-served-one κs a r r′ x x′ p q = same-value p q
 
 pub lane-of-one : (κs : Lfts 0) (a : ArgsD lane-of.signature κs) (r r′ : ResD lane-of.signature κs)
     (x x′ : AtExit (kinds.endedOf 0 lane-of-kinds.ps lane-of-kinds.r) κs)
     → lane-of-reads.Post κs a r x → lane-of-reads.Post κs a r′ x′ → r ≡ r′
-lane-of-one κs a r r′ x x′ p q = same p q
+lane-of-one κs a r r′ x x′ p q = same-value p q
 
 pub lane-put-one : (κs : Lfts 0) (a : ArgsD lane-put.signature κs) (r r′ : ResD lane-put.signature κs)
     (x x′ : AtExit (kinds.endedOf 0 lane-put-kinds.ps lane-put-kinds.r) κs)
     → lane-put-reads.Post κs a r x → lane-put-reads.Post κs a r′ x′ → r ≡ r′
-lane-put-one κs a r r′ x x′ p q = same p q
+lane-put-one κs a r r′ x x′ p q = same-value p q
 
 pub lane-value-one : (κs : Lfts 0) (a : ArgsD lane-value.signature κs) (r r′ : ResD lane-value.signature κs)
     (x x′ : AtExit (kinds.endedOf 0 lane-value-kinds.ps lane-value-kinds.r) κs)
     → lane-value-reads.Post κs a r x → lane-value-reads.Post κs a r′ x′ → r ≡ r′
-lane-value-one κs a r r′ x x′ p q = same p q
+lane-value-one κs a r r′ x x′ p q = same-value p q
 
 pub reaches-memory-one : (κs : Lfts 0) (a : ArgsD reaches-memory.signature κs) (r r′ : ResD reaches-memory.signature κs)
     (x x′ : AtExit (kinds.endedOf 0 reaches-memory-kinds.ps reaches-memory-kinds.r) κs)
     → reaches-memory-reads.Post κs a r x → reaches-memory-reads.Post κs a r′ x′ → r ≡ r′
-reaches-memory-one κs a r r′ x x′ p q = same p q
+reaches-memory-one κs a r r′ x x′ p q = same-value p q
 
 pub byte-at-one : (κs : Lfts 1) (a : ArgsD byte-at.signature κs) (r r′ : ResD byte-at.signature κs)
     (x x′ : AtExit (kinds.endedOf 1 byte-at-kinds.ps byte-at-kinds.r) κs)
     → byte-at-reads.Post κs a r x → byte-at-reads.Post κs a r′ x′ → r ≡ r′
-byte-at-one κs a r r′ x x′ p q = same p q
+byte-at-one κs a r r′ x x′ p q = same-value p q
 
 pub word-from-one : (κs : Lfts 1) (a : ArgsD word-from.signature κs) (r r′ : ResD word-from.signature κs)
     (x x′ : AtExit (kinds.endedOf 1 word-from-kinds.ps word-from-kinds.r) κs)
     → word-from-reads.Post κs a r x → word-from-reads.Post κs a r′ x′ → r ≡ r′
-word-from-one κs a r r′ x x′ p q = same p q
+word-from-one κs a r r′ x x′ p q = same-value p q

@@ -8,10 +8,9 @@ use native.Mathlib.Nat.{le-refl}
 use borrow.Author.Tests.{eq-eqb, ne-eqb, not-false}
 use lib.Dec.{eqb, ltb, leb}
 use lib.ListN.{getD, length}
-use lib.Bits.{and-zero-l}
 use Rattle.bits.specs.Choose.{pick}
 use Rattle.bits.specs.Bit.{bit}
-use Rattle.bits.specs.Word.{inside, lanesOf}
+use Rattle.bits.specs.Word.{lanesOf}
 use Rattle.bits.proofs.Cases.{pick-by}
 use Rattle.bits.proofs.Bools.{and-first, and-second, and-both, clash}
 use Rattle.chip.specs.declared.State.{State}
@@ -32,6 +31,8 @@ use Rattle.chip.specs.Effect.{Effect, idle, wroteRegister, wroteHeader, wroteIn
 use Rattle.chip.specs.Picture.{wordOf}
 use Rattle.chip.specs.Step.{Outcome, Gives, answered, refused, settled, seenBy, effectOf, stateAfter, memoryAfter, doneBy, givenBy, stepOf}
 use Rattle.chip.proofs.Lines.{none-holds}
+use Rattle.chip.proofs.Lent.{read-memory}
+use Rattle.bits.proofs.Words.{inside-zero}
 use Rattle.picture.specs.Draw.{fits, Redraws}
 use Rattle.picture.proofs.Parts.{part-idle, part-all}
 use Rattle.model.specs.Parts.{sizesOk, mayShow}
@@ -100,17 +101,6 @@ read s a m l r w k e =
 
 -- ---- the definition of an access, opened
 
-read-memory : (a : Access) (p : Place) (m : List ℕ) → memoryWith (readEffect a p) m ≡ m
-unfolding readEffect memoryWith
-read-memory a (Register i) m = refl
-read-memory a Address m = refl
-read-memory a PaletteData m = pick-by (λ (f : Effect). memoryWith f m ≡ m) (bit 0 (a .enables)) readComponent idle refl refl
-read-memory a IndexedData m = refl
-read-memory a (Window i) m = refl
-read-memory a (Config i) m = refl
-read-memory a Blank m = refl
-read-memory a Nowhere m = refl
-
 -- a place that is no window
 unfoldable plain : Place → Bool
 plain (Register i) = true
@@ -175,10 +165,6 @@ settled-as : (s : State) (m p : List ℕ) (n n′ : State) (q q′ : List ℕ) (
     → settled s m p n q w k ≡ settled s m p n′ q′ w′ k′
 settled-as s m p n n′ q q′ w w′ k k′ en eq ew ek =
     ap₂ (λ (x : State) (y : List ℕ). settled s m p x y w k) en eq ∙ ap₂ (λ (x y : ℕ). settled s m p n′ q′ x y) ew ek
-
-inside-zero : (m : ℕ) → inside 0 m ≡ 0
-unfolding inside
-inside-zero m = and-zero-l m
 
 nothing-known : (e : ℕ) → knownIn (seen 0 0) e ≡ 0
 unfolding knownIn

@@ -198,6 +198,3 @@ module _ (s : State) (control : ℕ) (a : Access) (m p : List ℕ) (r0 : ℕ) (m
 pub lane-fits : (s : State) (control : ℕ) (a : Access) (i : ℕ) (m p : List ℕ) (r : ℕ) (m′ p′ : List ℕ) → fits s s (length p) ≡ true → LaneIn s control a i m p r m′ p′
     → fits s s (length p′) ≡ true
 lane-fits s control a i m p r m′ p′ f k = ap (fits s s) (lane-size s control a i m p r m′ p′ k) ∙ f
-
-pub window-length : (control : ℕ) (a : Access) (i : ℕ) (s : State) (m p : List ℕ) (r : ℕ) (m′ p′ : List ℕ) → LaneIn s control a i m p r m′ p′ → length m′ ≡ length m
-window-length control a i s m p r m′ p′ k = ap length (k .memory) ∙ lane-length control a i m

@@ -1,40 +1,20 @@
--- A fault byte gathered by OR is zero exactly where every test passes, and an entry's fault byte where its test does.
--- An entry by the cases of its flag: 0, 1 and more; the loop by one turn. Assumes nothing.
-use Prim.Native.Nat.{ℕ, zero, suc, _+_, _-_, _*_, _/_, _%_, _<_, _≤_}
+-- An entry's fault byte is zero exactly where its test passes, and what the code finds at an entry.
+-- By the cases of its flag: 0, 1 and more. Assumes nothing.
+use Prim.Native.Nat.{ℕ, zero, suc, _-_, _*_, _/_, _%_, _<_}
 use mathlib.Core.Bool.{Bool, true, false, _&&_}
-use mathlib.Core.Option.{Option, none, some}
-use mathlib.Core.Path.{_≡_, refl, sym, ap, ap₂, _∙_, subst}
-use native.Mathlib.Numerals.{add-one}
+use mathlib.Core.Path.{_≡_, refl, ap, _∙_}
 use native.Mathlib.Omega.{arith}
-use borrow.Author.Tests.{ne-eqb, eqb-true, eqb-false}
-use lib.Bits.{bitAnd, bitOr, or-add-and, and-le-r, and-mask, and-zero-r, or-lt}
+use borrow.Author.Tests.{eq-eqb, ne-eqb}
+use lib.Bits.{bitAnd, bitOr, and-mask, and-zero-r, or-lt}
 use lib.Dec.{eqb}
-use Rattle.bits.specs.Choose.{everyTo}
-use Rattle.bits.proofs.Cases.{byTest}
-use Rattle.chip.specs.declared.Colour.{Colour}
-use Rattle.chip.specs.Picture.{colourWord}
-use Rattle.palette.specs.declared.entries.Found.{Found}
-use Rattle.palette.specs.declared.entries.Found.the-variants.{Stored}
-use Rattle.palette.specs.Entry.{foundOf, wordOfFound, entryFine}
-
--- what the code finds shows the word that the entry does
-pub found-word : (o : Option Colour) → wordOfFound (foundOf o) ≡ colourWord o
-found-word none = refl
-found-word (some c) = refl
-
--- the word of a colour, from its parts
-pub stored-word : (f : Found) (x : Colour) (r g b : ℕ) → f ≡ Stored x → r ≡ x .red → g ≡ x .green → b ≡ x .blue
-    → 0x01000000 + r * 0x10000 + g * 0x100 + b ≡ wordOfFound f
-stored-word f x r g b e p q s = rw (p, q, s, e)
+use lib.ListN.{getD}
+use Rattle.bits.proofs.Gathers.{or-zero}
+use Rattle.chip.specs.declared.Palette.{Palette}
+use Rattle.chip.specs.Palette.{entryOf}
+use Rattle.palette.specs.declared.entries.Found.the-variants.{Never, Stored}
+use Rattle.palette.specs.Entry.{foundOf, entryFine}
 
 -- ---- fault bytes
-
-pub or-zero : (a b : ℕ) → eqb (bitOr a b) 0 ≡ (eqb a 0 && eqb b 0)
-or-zero a b =
-    byTest (eqb a 0)
-    (λ e. subst (λ (x : ℕ). eqb (bitOr x b) 0 ≡ (eqb x 0 && eqb b 0)) (sym (eqb-true a 0 e)) refl)
-    (λ e. let n : a ≡ 0 → ⊥ = eqb-false a 0 e in
-    ne-eqb (bitOr a b) 0 (λ z. n (omega (arith, or-add-and a b, and-le-r a b))) ∙ sym (ap (λ (t : Bool). t && eqb b 0) e))
 
 or-three : (a b c : ℕ) → eqb (bitOr (bitOr a b) c) 0 ≡ (eqb a 0 && (eqb b 0 && eqb c 0))
 or-three a b c = or-zero (bitOr a b) c ∙ ap (λ (t : Bool). t && eqb c 0) (or-zero a b) ∙ grouped (eqb a 0) (eqb b 0) (eqb c 0)
@@ -67,10 +47,13 @@ entry-fault r g b (suc zero) hr hg hb = ap (λ (n : ℕ). eqb n 0) (once-stored 
 entry-fault r g b (suc (suc s)) hr hg hb =
     simp (ne-eqb (suc (suc s)) 0 (λ z. omega arith), ne-eqb (suc (suc s)) 1 (λ z. omega arith)) (more _ s)
 
--- ---- the loop
+-- ---- an entry by its flag
 
-pub gathered : (t : ℕ → Bool) (i bad f : ℕ) → eqb bad 0 ≡ everyTo t i → eqb f 0 ≡ t i → eqb (bitOr bad f) 0 ≡ everyTo t (i + 1)
-gathered t i bad f p q = rw add-one (or-zero bad f ∙ ap₂ (λ (x y : Bool). x && y) p q)
+pub entry-never : (p : Palette) (e : ℕ) → getD (p .stored) e 0 ≡ 0 → Never ≡ foundOf (entryOf p e)
+unfolding entryOf
+entry-never p e z = simp (eq-eqb (getD (p .stored) e 0) 0 z)
 
-pub at-end : (t : ℕ → Bool) (n i bad : ℕ) → eqb bad 0 ≡ everyTo t i → i ≤ n → n ≤ i → eqb bad 0 ≡ everyTo t n
-at-end t n i bad p a b = subst (λ (k : ℕ). eqb bad 0 ≡ everyTo t k) (let e : i ≡ n = omega arith in e) p
+pub entry-stored : (p : Palette) (e : ℕ) → (getD (p .stored) e 0 ≡ 0 → ⊥)
+    → Stored (record { red = getD (p .red) e 0; green = getD (p .green) e 0; blue = getD (p .blue) e 0 }) ≡ foundOf (entryOf p e)
+unfolding entryOf
+entry-stored p e n = simp (ne-eqb (getD (p .stored) e 0) 0 n)

@@ -1,6 +1,7 @@
 -- Any two outcomes that the contract of a public function allows are equal: the RAMDAC and the palette.
 -- Each contract is an equation for the result, and one law says that two results of one equation are equal. Assumes nothing.
-use mathlib.Core.Path.{_≡_, sym, _∙_}
+use mathlib.Core.Path.{_≡_}
+use Rattle.bits.proofs.Cases.{same-value}
 use contract.Lifetimes.{Lfts}
 use denote.Triple.Clauses.{AtExit}
 use borrow.Fn.Kinds as kinds
@@ -29,9 +30,6 @@ use Rattle.palette.proofs.entries.entry_of.Kinds as entry-of-kinds
 use Rattle.palette.proofs.entries.store_entry as store-entry
 use Rattle.palette.proofs.entries.store_entry.Reads as store-entry-reads
 use Rattle.palette.proofs.entries.store_entry.Kinds as store-entry-kinds
-use Rattle.palette.proofs.entries.colour_word as colour-word
-use Rattle.palette.proofs.entries.colour_word.Reads as colour-word-reads
-use Rattle.palette.proofs.entries.colour_word.Kinds as colour-word-kinds
 use Rattle.palette.proofs.entries.kept_as as kept-as
 use Rattle.palette.proofs.entries.kept_as.Reads as kept-as-reads
 use Rattle.palette.proofs.entries.kept_as.Kinds as kept-as-kinds
@@ -60,96 +58,87 @@ use Rattle.palette.proofs.entries.painted as painted
 use Rattle.palette.proofs.entries.painted.Reads as painted-reads
 use Rattle.palette.proofs.entries.painted.Kinds as painted-kinds
 
--- what two contracts of one equation give
-same : {A : Type 0} {o r r′ : A} → r ≡ o → r′ ≡ o → r ≡ r′
-same p q = p ∙ sym q
-
 pub aimed-at-one : (κs : Lfts 0) (a : ArgsD aimed-at.signature κs) (r r′ : ResD aimed-at.signature κs)
     (x x′ : AtExit (kinds.endedOf 0 aimed-at-kinds.ps aimed-at-kinds.r) κs)
     → aimed-at-reads.Post κs a r x → aimed-at-reads.Post κs a r′ x′ → r ≡ r′
-aimed-at-one κs a r r′ x x′ p q = same p q
+aimed-at-one κs a r r′ x x′ p q = same-value p q
 
 pub after-peek-one : (κs : Lfts 0) (a : ArgsD after-peek.signature κs) (r r′ : ResD after-peek.signature κs)
     (x x′ : AtExit (kinds.endedOf 0 after-peek-kinds.ps after-peek-kinds.r) κs)
     → after-peek-reads.Post κs a r x → after-peek-reads.Post κs a r′ x′ → r ≡ r′
-after-peek-one κs a r r′ x x′ p q = same p q
+after-peek-one κs a r r′ x x′ p q = same-value p q
 
 pub after-paint-one : (κs : Lfts 0) (a : ArgsD after-paint.signature κs) (r r′ : ResD after-paint.signature κs)
     (x x′ : AtExit (kinds.endedOf 0 after-paint-kinds.ps after-paint-kinds.r) κs)
     → after-paint-reads.Post κs a r x → after-paint-reads.Post κs a r′ x′ → r ≡ r′
-after-paint-one κs a r r′ x x′ p q = same p q
+after-paint-one κs a r r′ x x′ p q = same-value p q
 
 pub address-known-one : (κs : Lfts 0) (a : ArgsD address-known.signature κs) (r r′ : ResD address-known.signature κs)
     (x x′ : AtExit (kinds.endedOf 0 address-known-kinds.ps address-known-kinds.r) κs)
     → address-known-reads.Post κs a r x → address-known-reads.Post κs a r′ x′ → r ≡ r′
-address-known-one κs a r r′ x x′ p q = same p q
+address-known-one κs a r r′ x x′ p q = same-value p q
 
 pub completes-one : (κs : Lfts 0) (a : ArgsD completes.signature κs) (r r′ : ResD completes.signature κs)
     (x x′ : AtExit (kinds.endedOf 0 completes-kinds.ps completes-kinds.r) κs)
     → completes-reads.Post κs a r x → completes-reads.Post κs a r′ x′ → r ≡ r′
-completes-one κs a r r′ x x′ p q = same p q
+completes-one κs a r r′ x x′ p q = same-value p q
 
 pub dac-sound-one : (κs : Lfts 0) (a : ArgsD dac-sound.signature κs) (r r′ : ResD dac-sound.signature κs)
     (x x′ : AtExit (kinds.endedOf 0 dac-sound-kinds.ps dac-sound-kinds.r) κs)
     → dac-sound-reads.Post κs a r x → dac-sound-reads.Post κs a r′ x′ → r ≡ r′
-dac-sound-one κs a r r′ x x′ p q = same p q
+dac-sound-one κs a r r′ x x′ p q = same-value p q
 
 pub entry-of-one : (κs : Lfts 0) (a : ArgsD entry-of.signature κs) (r r′ : ResD entry-of.signature κs)
     (x x′ : AtExit (kinds.endedOf 0 entry-of-kinds.ps entry-of-kinds.r) κs)
     → entry-of-reads.Post κs a r x → entry-of-reads.Post κs a r′ x′ → r ≡ r′
-entry-of-one κs a r r′ x x′ p q = same p q
+entry-of-one κs a r r′ x x′ p q = same-value p q
 
 pub store-entry-one : (κs : Lfts 0) (a : ArgsD store-entry.signature κs) (r r′ : ResD store-entry.signature κs)
     (x x′ : AtExit (kinds.endedOf 0 store-entry-kinds.ps store-entry-kinds.r) κs)
     → store-entry-reads.Post κs a r x → store-entry-reads.Post κs a r′ x′ → r ≡ r′
-store-entry-one κs a r r′ x x′ p q = same p q
-
-pub colour-word-one : (κs : Lfts 0) (a : ArgsD colour-word.signature κs) (r r′ : ResD colour-word.signature κs)
-    (x x′ : AtExit (kinds.endedOf 0 colour-word-kinds.ps colour-word-kinds.r) κs)
-    → colour-word-reads.Post κs a r x → colour-word-reads.Post κs a r′ x′ → r ≡ r′
-colour-word-one κs a r r′ x x′ p q = same p q
+store-entry-one κs a r r′ x x′ p q = same-value p q
 
 pub kept-as-one : (κs : Lfts 0) (a : ArgsD kept-as.signature κs) (r r′ : ResD kept-as.signature κs)
     (x x′ : AtExit (kinds.endedOf 0 kept-as-kinds.ps kept-as-kinds.r) κs)
     → kept-as-reads.Post κs a r x → kept-as-reads.Post κs a r′ x′ → r ≡ r′
-kept-as-one κs a r r′ x x′ p q = same p q
+kept-as-one κs a r r′ x x′ p q = same-value p q
 
 pub shown-as-one : (κs : Lfts 0) (a : ArgsD shown-as.signature κs) (r r′ : ResD shown-as.signature κs)
     (x x′ : AtExit (kinds.endedOf 0 shown-as-kinds.ps shown-as-kinds.r) κs)
     → shown-as-reads.Post κs a r x → shown-as-reads.Post κs a r′ x′ → r ≡ r′
-shown-as-one κs a r r′ x x′ p q = same p q
+shown-as-one κs a r r′ x x′ p q = same-value p q
 
 pub part-of-one : (κs : Lfts 0) (a : ArgsD part-of.signature κs) (r r′ : ResD part-of.signature κs)
     (x x′ : AtExit (kinds.endedOf 0 part-of-kinds.ps part-of-kinds.r) κs)
     → part-of-reads.Post κs a r x → part-of-reads.Post κs a r′ x′ → r ≡ r′
-part-of-one κs a r r′ x x′ p q = same p q
+part-of-one κs a r r′ x x′ p q = same-value p q
 
 pub palette-sound-one : (κs : Lfts 1) (a : ArgsD palette-sound.signature κs) (r r′ : ResD palette-sound.signature κs)
     (x x′ : AtExit (kinds.endedOf 1 palette-sound-kinds.ps palette-sound-kinds.r) κs)
     → palette-sound-reads.Post κs a r x → palette-sound-reads.Post κs a r′ x′ → r ≡ r′
-palette-sound-one κs a r r′ x x′ p q = same p q
+palette-sound-one κs a r r′ x x′ p q = same-value p q
 
 pub palette-wide-one : (κs : Lfts 0) (a : ArgsD palette-wide.signature κs) (r r′ : ResD palette-wide.signature κs)
     (x x′ : AtExit (kinds.endedOf 0 palette-wide-kinds.ps palette-wide-kinds.r) κs)
     → palette-wide-reads.Post κs a r x → palette-wide-reads.Post κs a r′ x′ → r ≡ r′
-palette-wide-one κs a r r′ x x′ p q = same p q
+palette-wide-one κs a r r′ x x′ p q = same-value p q
 
 pub seen-palette-one : (κs : Lfts 0) (a : ArgsD seen-palette.signature κs) (r r′ : ResD seen-palette.signature κs)
     (x x′ : AtExit (kinds.endedOf 0 seen-palette-kinds.ps seen-palette-kinds.r) κs)
     → seen-palette-reads.Post κs a r x → seen-palette-reads.Post κs a r′ x′ → r ≡ r′
-seen-palette-one κs a r r′ x x′ p q = same p q
+seen-palette-one κs a r r′ x x′ p q = same-value p q
 
 pub aimed-one : (κs : Lfts 0) (a : ArgsD aimed.signature κs) (r r′ : ResD aimed.signature κs)
     (x x′ : AtExit (kinds.endedOf 0 aimed-kinds.ps aimed-kinds.r) κs)
     → aimed-reads.Post κs a r x → aimed-reads.Post κs a r′ x′ → r ≡ r′
-aimed-one κs a r r′ x x′ p q = same p q
+aimed-one κs a r r′ x x′ p q = same-value p q
 
 pub peeked-one : (κs : Lfts 0) (a : ArgsD peeked.signature κs) (r r′ : ResD peeked.signature κs)
     (x x′ : AtExit (kinds.endedOf 0 peeked-kinds.ps peeked-kinds.r) κs)
     → peeked-reads.Post κs a r x → peeked-reads.Post κs a r′ x′ → r ≡ r′
-peeked-one κs a r r′ x x′ p q = same p q
+peeked-one κs a r r′ x x′ p q = same-value p q
 
 pub painted-one : (κs : Lfts 0) (a : ArgsD painted.signature κs) (r r′ : ResD painted.signature κs)
     (x x′ : AtExit (kinds.endedOf 0 painted-kinds.ps painted-kinds.r) κs)
     → painted-reads.Post κs a r x → painted-reads.Post κs a r′ x′ → r ≡ r′
-painted-one κs a r r′ x x′ p q = same p q
+painted-one κs a r r′ x x′ p q = same-value p q

@@ -1,5 +1,5 @@
 -- What the code finds at a palette entry, and refusal 1's test of an entry's four bytes.
-use Prim.Native.Nat.{ℕ, _+_, _*_}
+use Prim.Native.Nat.{ℕ}
 use mathlib.Core.Bool.{Bool, _&&_}
 use mathlib.Core.Option.{Option, none, some}
 use lib.Dec.{eqb}
@@ -12,11 +12,6 @@ use Rattle.palette.specs.declared.entries.Found.the-variants.{Never, Sto
 abbrev pub foundOf : Option Colour → Found
 foundOf none = Never
 foundOf (some c) = Stored c
-
--- the word of a dot that shows such an entry (rules 4 and 5)
-abbrev pub wordOfFound : Found → ℕ
-wordOfFound Never = 0x04000000
-wordOfFound (Stored c) = 0x01000000 + c .red * 0x10000 + c .green * 0x100 + c .blue
 
 -- refusal 1 on one entry: red, green, blue, flag
 unfoldable pub entryFine : (r g b s : ℕ) → Bool

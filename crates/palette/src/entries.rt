@@ -14,7 +14,7 @@ ghost use lib.Dec.{eqb};
 ghost use Rattle.chip.specs.Palette.{entryOf, storeEntry, keptAs, shownAs, partOf, paletteOk};
 ghost use Rattle.chip.specs.Effect.{wide, seenAt, stateWith, setAddress, readComponent, wroteComponent};
 ghost use Rattle.chip.specs.declared.Place.the-variants.{PaletteData};
-ghost use Rattle.palette.specs.Entry.{foundOf, wordOfFound, entryFine};
+ghost use Rattle.palette.specs.Entry.{foundOf, entryFine};
 
 // What a palette entry holds: nothing, where it was never stored, or a colour.
 pub enum Found {
@@ -52,19 +52,6 @@ fn wide_of(b: u8) -> u32
     ensures { λ r. ⌜ r ≡ b ⌝ }
 {
     b as u32
-}
-
-// The word of a dot that shows this entry: 01RRGGBBh, or 04000000h where it was never stored.
-pub fn colour_word(f: Found) -> u32
-    ensures { λ r. ⌜ r ≡ wordOfFound f ⌝ }
-{
-    match f {
-        Found::Never => 0x04000000,
-        Found::Stored(c) => 0x01000000
-            + wide_of(c.red) * 0x10000
-            + wide_of(c.green) * 0x100
-            + wide_of(c.blue),
-    }
 }
 
 // A byte as it is stored: with 8 bits as it is, with 6 bits 4 times its lowest six.

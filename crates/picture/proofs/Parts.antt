@@ -133,7 +133,3 @@ part-redraws t f g b l r l′ e h p =
 
 pub no-redraw : (t : Bool) (f g : ℕ → ℕ) (l : List ℕ) → t ≡ false → Redraws t f g l 0 l
 no-redraw t f g l e = record { picture = simp e; count = simp e }
-
--- a part changes no more words than it has dots
-pub part-few : (f g : ℕ → ℕ) (a b : ℕ) (l : List ℕ) (r : ℕ) (l′ : List ℕ) → Part f g a b l r l′ → r ≤ length l
-part-few f g a b l r l′ p = omega (arith, p .count, diffs-le l l′)

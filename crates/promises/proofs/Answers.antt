@@ -5,14 +5,13 @@ use mathlib.Core.Bool.{Bool, true, false, _&&_}
 use mathlib.Core.List.{List}
 use mathlib.Core.Path.{_≡_, refl, ap, ap₂, _∙_}
 use borrow.Author.Tests.{eqb-true}
-use lib.Bits.{and-zero-l}
 use lib.Dec.{eqb}
 use Rattle.bits.specs.Bit.{bit}
-use Rattle.bits.specs.Word.{inside, lanesOf}
+use Rattle.bits.specs.Word.{lanesOf}
 use Rattle.bits.proofs.Cases.{pick-by}
 use Rattle.bits.proofs.Bools.{and-false}
 use Rattle.bits.proofs.Single.{bit-of-zero}
-use Rattle.bits.proofs.Words.{bit-inside, lane-bit}
+use Rattle.bits.proofs.Words.{bit-inside, lane-bit, inside-zero}
 use Rattle.chip.specs.declared.State.{State}
 use Rattle.chip.specs.declared.Access.{Access}
 use Rattle.chip.specs.declared.Dac.{Dac}
@@ -26,10 +25,10 @@ use Rattle.chip.specs.Picture.{baseOf, strideOf, rowStart, dotByte, maskOf, not
 use Rattle.chip.specs.Step.{Outcome, refused, settled, seenBy, effectOf, stateAfter, memoryAfter, doneBy, givenBy, stepOf}
 use Rattle.chip.specs.Trace.{World, step, after}
 use Rattle.chip.proofs.Redraw.{redrawn-still}
+use Rattle.chip.proofs.Lent.{read-memory}
 use Rattle.promises.specs.Good.{statusAt}
 use Rattle.promises.specs.View.{LeavesRest}
 use Rattle.promises.proofs.Shown.{enables-lt}
-use Rattle.promises.proofs.Only.{read-memory}
 
 -- ---- by the two ways that an access can go
 
@@ -58,10 +57,6 @@ lane-off x a b hb e =
     (λ d. bit-inside b _ (lanesOf (a .enables)) ∙ zero-known (bit b (lanesOf (a .enables))) (bit b (seenBy (x .state) (x .memory) a .known)) (lane-bit b (a .enables) hb (enables-lt (x .state) _ _ a d) ∙ e))
     (bit-of-zero b)
 
-inside-zero : (m : ℕ) → inside 0 m ≡ 0
-unfolding inside
-inside-zero m = and-zero-l m
-
 -- a write answers 0 and 0
 pub write-answers : (x : World) (a : Access) → isWrite a ≡ true → (step x a .answer .word ≡ 0) × (step x a .answer .known ≡ 0)
 unfolding doneBy settled refused seenBy wordIn knownIn
@@ -84,10 +79,6 @@ read-state a Blank s = refl
 read-state a Nowhere s = refl
 
 -- a dot's word does not ask for the palette's pointer
-pub dac-unseen : (s : State) (d : Dac) (m : List ℕ) (i : ℕ) → wordOf (withDac s d (s .palette)) m i ≡ wordOf s m i
-unfolding wordOf wordAt laidAt underAt underByte dotEntry beyond unplaced notIndexed maskOf dotByte rowStart strideOf baseOf withDac
-dac-unseen s d m i = refl
-
 still-picture : (s n : State) (m k p : List ℕ) (d : Dac) → n ≡ withDac s d (s .palette) → k ≡ m → redrawn (wordOf s m) (wordOf n k) p ≡ p
 unfolding wordOf wordAt laidAt underAt underByte dotEntry beyond unplaced notIndexed maskOf dotByte rowStart strideOf baseOf withDac
 still-picture s n m k p d e f =

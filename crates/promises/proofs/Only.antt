@@ -38,6 +38,7 @@ use Rattle.chip.specs.Sound.{onceOk}
 use Rattle.chip.specs.Step.{effectOf}
 use Rattle.chip.specs.Trace.{World, after}
 use Rattle.chip.proofs.Poked.{reached, byte-after}
+use Rattle.chip.proofs.Lent.{read-memory}
 use Rattle.promises.specs.Good.{Formed, Good, statusAt}
 use Rattle.promises.specs.History.{effectAt, Spot, region, header, indirect, putIf, putsBit, wrapped, putsEntry, putsDac}
 use Rattle.promises.specs.Frame.{headerReach, reachFrom, reaches, valueAt, knownAt, SameBit, turnsFrom, storesFrom, pokesFrom}
@@ -352,17 +353,6 @@ write-byte s m a k (Window i) l n w q =
 write-byte s m a k (Config i) l n w q = refl
 write-byte s m a k Blank l n w q = refl
 write-byte s m a k Nowhere l n w q = refl
-
-pub read-memory : (a : Access) (p : Place) (m : List ℕ) → memoryWith (readEffect a p) m ≡ m
-unfolding readEffect memoryWith
-read-memory a (Register i) m = refl
-read-memory a Address m = refl
-read-memory a PaletteData m = pick-by (λ (f : Effect). memoryWith f m ≡ m) (bit 0 (a .enables)) readComponent idle refl refl
-read-memory a IndexedData m = refl
-read-memory a (Window i) m = refl
-read-memory a (Config i) m = refl
-read-memory a Blank m = refl
-read-memory a Nowhere m = refl
 
 -- a memory byte that an access does not reach is as before
 pub same-byte : (x : World) (a : Access) (k : ℕ) → Good x → pokesFrom (x .state) a k (placeOf a) ≡ false

@@ -58,10 +58,7 @@ completes d v c q =
     never : _≡_ {A = Option Colour} none (some c) → Completes d v c
     never e = absurd (let z : _≡_ {A = ℕ} 0 1 = cc in omega arith)
 
--- advancing keeps the address below component 2, and stages what it is given
-record Early (d n : Dac) : Type 0 where
-  address : n .address ≡ d .address
-
+-- advancing stages what it is given
 advanced-staged : (d : Dac) (n r g : ℕ) → advanced d n r g .staged ≡ n
 unfolding advanced
 advanced-staged d n r g = byTest (ltb (d .component) 2) (λ q. simp q) (λ q. simp q)

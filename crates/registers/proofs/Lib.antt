@@ -1,5 +1,4 @@
 pub mod Searches
-pub mod Gathers
 pub mod Filled
 pub mod Plain
 pub mod RegionRows

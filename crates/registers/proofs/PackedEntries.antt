@@ -19,7 +19,7 @@ use Rattle.chip.specs.Sound.{indirectOk, indirectSound}
 use Rattle.chip.specs.State.{indirectResets}
 use Rattle.chip.proofs.Tables.{map-at, map-length, indirect-rule}
 use Rattle.registers.specs.Packed.{packed, writableIn, resetIn, knownIn, packedFaults, packedOk, packedSound, ResetsOf}
-use Rattle.registers.proofs.Gathers.{every-same}
+use Rattle.bits.proofs.Gathers.{every-same}
 
 -- ---- one number
 

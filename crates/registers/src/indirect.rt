@@ -20,7 +20,7 @@ const INDIRECT: [u32; 256] = [
     0,
     0,
     0x3FF007F, // 06h RDCursorControl
-    0,
+    0, // 07h
     0,
     0,
     0,

@@ -1,6 +1,5 @@
 -- `palette::entries::entry_of` is the definition, by the flag. Assumes nothing.
-use borrow.Author.Tests.{eq-eqb, ne-eqb}
-use Rattle.chip.specs.Palette.{entryOf}
+use Rattle.palette.proofs.EntryLaws.{entry-never, entry-stored}
 use borrow.Author.Needs.{needs}
 use Rattle.palette.proofs.entries.entry_of.Statement.{statement}
 use Rattle.palette.proofs.entries.entry_of.Tie as tie
@@ -9,8 +8,7 @@ element-copy-out-flag : tie.Need-element-copy-out-flag
 element-copy-out-flag c = search needs
 
 returns : tie.Need-returns
-unfolding entryOf
-returns c = simp (eq-eqb _ _ (c .if1 .taken))
+returns c = entry-never _ _ (c .if1 .taken)
 
 element-copy-out-red : tie.Need-element-copy-out-red
 element-copy-out-red c = search needs
@@ -22,8 +20,7 @@ element-copy-out-blue : tie.Need-element-copy-out-blue
 element-copy-out-blue c = search needs
 
 returns-2 : tie.Need-returns-2
-unfolding entryOf
-returns-2 c = simp (ne-eqb _ _ (c .before .before .before .if1 .left))
+returns-2 c = entry-stored _ _ (c .before .before .before .if1 .left)
 
 pub entry-of-spec : {M : Type 1} → statement M
 entry-of-spec =

@@ -9,7 +9,7 @@ use Rattle.bits.specs.Choose.{everyTo}
 use Rattle.chip.specs.declared.Palette.{Palette}
 use Rattle.chip.specs.Palette.{entryOk, paletteOk}
 use Rattle.palette.specs.Entry.{entryFine}
-use Rattle.palette.proofs.EntryLaws.{gathered, at-end}
+use Rattle.bits.proofs.Gathers.{gathered, at-end}
 use borrow.Author.Needs.{needs}
 use Rattle.palette.proofs.entries.palette_sound.Statement.{statement}
 use Rattle.palette.proofs.entries.palette_sound.Tie as tie

@@ -6,7 +6,7 @@ use borrow.Author.Needs.{needs}
 use native.Mathlib.Omega.{arith}
 use lib.Dec.{eqb}
 use Rattle.registers.specs.Packed.{packedOk, packedSound}
-use Rattle.registers.proofs.Gathers.{Gathered, gather-more, gathered-all}
+use Rattle.bits.proofs.Gathers.{Gathered, gather-more, gathered-all}
 use Rattle.registers.proofs.indirect.table_sound.Statement.{statement}
 use Rattle.registers.proofs.indirect.table_sound.Tie as tie
 

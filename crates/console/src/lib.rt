@@ -1,20 +1,4 @@
-// Standard output, for the programs. Of the libraries this one alone rests on the contracts that the kit states for the C library.
-
-pub fn say(text: &[u8]) {
-    io::write_all(1, text);
-}
-
-// In decimal, without leading zeros.
-pub fn say_number(n: u32) {
-    io::print_decimal(1, n as u64);
-}
-
-// In lower-case hexadecimal, with as many digits as it needs.
-pub fn say_hex(n: u32) {
-    io::print_hex(1, n as u64, 1);
-}
-
-// The same with eight digits.
-pub fn say_word(n: u32) {
-    io::print_hex(1, n as u64, 8);
-}
+// Standard input and output for the programs. Of the libraries this one alone rests on the contracts that the kit states for the C library.
+pub mod say; // say.rt: texts and numbers to standard output
+mod session; // session.rt: the loop over standard input
+pub mod trace; // trace.rt: the trace program

@@ -2,8 +2,8 @@
 // dots in both. It measures only where its standard input has a byte, and writes nothing otherwise, since times vary.
 use chip::Access;
 use chip::State;
-use console::say;
-use console::say_number;
+use console::say::say;
+use console::say::say_number;
 
 fn write(target: u32, offset: u32, word: u32) -> Access {
     Access {
@@ -148,7 +148,7 @@ fn large() -> u32 {
 fn ratio(a: u32, b: u32) {
     if a != 0 {
         say(b"ratio in percent: ");
-        console::say_number(((b as u64) * 100 / (a as u64) % 4294967296) as u32);
+        console::say::say_number(((b as u64) * 100 / (a as u64) % 4294967296) as u32);
         say(b"\n");
     }
 }

@@ -6,7 +6,7 @@ use crate::cases::read;
 use crate::cases::two;
 use crate::cases::write;
 use chip::State;
-use console::say;
+use console::say::say;
 
 // The last word that is fitted is served, the next is refused as 5, and an offset inside a word as 4.
 pub(crate) fn offsets() {
@@ -67,7 +67,7 @@ fn say_red(s: State) {
     let p = s.palette;
     let red = p.red[7];
     say(b"stored red of entry 7: ");
-    console::say_number(red as u32);
+    console::say::say_number(red as u32);
     say(b"\n");
 }
 

@@ -1,6 +1,6 @@
 // The limits of an opening.
 use crate::cases::open_shown;
-use console::say;
+use console::say::say;
 
 fn none_by_one() {
     let mut memory = [0u8; 16];

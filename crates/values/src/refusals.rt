@@ -5,7 +5,7 @@ use crate::cases::open_shown;
 use crate::cases::read;
 use crate::cases::two;
 use crate::cases::write;
-use console::say;
+use console::say::say;
 
 // An opening, and an access on the state that it gives.
 fn open_and_ask(width: u32, height: u32, memory: &mut [u8], picture: &mut [u32]) {

@@ -2,10 +2,10 @@
 use chip::Access;
 use chip::Answer;
 use chip::Opened;
-use console::say;
-use console::say_hex;
-use console::say_number;
-use console::say_word;
+use console::say::say;
+use console::say::say_hex;
+use console::say::say_number;
+use console::say::say_word;
 
 fn panel(width: u32, height: u32) {
     say_number(width);

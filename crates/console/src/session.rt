@@ -1,0 +1,120 @@
+// The loop over standard input: lines gathered from chunks of any size, each carried out and answered at once.
+use crate::say::say;
+use chip::State;
+use model::access::access;
+use text::Asked;
+use text::Taken;
+use text::answer::write;
+use text::gather::gather;
+use text::line::read;
+ghost use Prim.Native.Nat.{_≤_};
+ghost use lib.ListN.{length};
+
+// Between two chunks: the state, and how many bytes of a line are in the buffer. The buffer has one byte more than a line may have, so that a line
+// too long is seen by its length.
+struct Kept {
+    state: State,
+    held: usize,
+}
+
+struct Round {
+    more: bool,
+    kept: Kept,
+}
+
+// A line's answer; a line of another form alters nothing.
+fn answer_line(s: State, line: &[u8], memory: &mut [u8], picture: &mut [u32]) -> State {
+    let asked = read(line);
+    match asked {
+        Asked::Bad => {
+            say(b"bad\n");
+            s
+        }
+        Asked::For(a) => {
+            let r = access(s, a, memory, picture);
+            let mut out = [0u8; 40];
+            let n = write(r.status, r.word, r.known, r.changed, &mut out);
+            say(&out[..n]);
+            r.state
+        }
+    }
+}
+
+// A line that is whole is answered, and the next one starts.
+fn settle(s: State, t: Taken, line: &[u8], memory: &mut [u8], picture: &mut [u32]) -> Kept
+    requires { ⌜ t .held ≤ length (now line) ⌝ }
+    ensures { λ r. ⌜ r .held ≤ length (now (line .entry)) ⌝ }
+{
+    let held = t.held;
+    if t.whole {
+        let next = answer_line(s, &line[..held], memory, picture);
+        return Kept {
+            state: next,
+            held: 0,
+        };
+    }
+    Kept { state: s, held }
+}
+
+// One chunk.
+fn feed(k: Kept, chunk: &[u8], line: &mut [u8], memory: &mut [u8], picture: &mut [u32]) -> Kept
+    requires { ⌜ k .held ≤ length (now line) ⌝ }
+    ensures { λ r. ⌜ r .held ≤ length (now (line .entry)) ⌝ }
+{
+    let mut now_kept = k;
+    let mut from = 0;
+    while from < chunk.len() {
+        let t = gather(chunk, from, line, now_kept.held);
+        now_kept = settle(now_kept.state, t, line, memory, picture);
+        from = t.next;
+    }
+    now_kept
+}
+
+// Reads once; no more where the input ends or can't be read.
+fn turn(k: Kept, line: &mut [u8], memory: &mut [u8], picture: &mut [u32]) -> Round
+    requires { ⌜ k .held ≤ length (now line) ⌝ }
+    ensures { λ r. ⌜ r .kept .held ≤ length (now (line .entry)) ⌝ }
+{
+    let mut chunk = io::buffer();
+    let got = libc::read(0, &mut chunk);
+    if got < 0 {
+        io::write_all(2, b"standard input can't be read\n");
+        return Round {
+            more: false,
+            kept: k,
+        };
+    }
+    if got == 0 {
+        return Round {
+            more: false,
+            kept: k,
+        };
+    }
+    let n = io::count(got, &chunk);
+    let next = feed(k, &chunk[..n], line, memory, picture);
+    Round {
+        more: true,
+        kept: next,
+    }
+}
+
+// All of standard input, from a state on. A last line without its newline is a line; one of no bytes is none. A proved loop has to end, so it counts
+// its turns down from a number that no run uses up.
+pub(crate) fn run(s: State, memory: &mut [u8], picture: &mut [u32]) -> State {
+    let mut line = [0u8; 65];
+    let mut k = Kept { state: s, held: 0 };
+    let mut turns = u64::MAX;
+    let mut more = true;
+    while more && turns > 0 {
+        let t = turn(k, &mut line, memory, picture);
+        k = t.kept;
+        more = t.more;
+        turns -= 1;
+    }
+    let held = k.held;
+    if 0 < held {
+        return answer_line(k.state, &line[..held], memory, picture);
+    }
+    k.state
+}

@@ -1,0 +1,4 @@
+// The trace program on a random trace of the second program's, of seed 1.
+fn main() {
+    console::trace::trace();
+}

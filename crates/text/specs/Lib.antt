@@ -1,0 +1,4 @@
+pub mod Numeral
+pub mod Answer
+pub mod Line
+pub mod Gather

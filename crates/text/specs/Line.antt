@@ -1,0 +1,88 @@
+-- What a line of a trace asks for (01, Values to check; docs/DECISIONS.md, D-30). A line is given without its newline.
+use Prim.Native.Nat.{ℕ, _+_, _-_, _*_}
+use mathlib.Core.Bool.{Bool, false, _&&_}
+use mathlib.Core.List.{List, [], _∷_}
+use lib.Dec.{eqb, ltb, leb}
+use lib.ListN.{length}
+use Rattle.bits.specs.Choose.{pick, everyIn}
+use Rattle.text.specs.declared.Asked.{Asked}
+use Rattle.text.specs.declared.Asked.the-variants.{Bad, For}
+use Rattle.text.specs.declared.Field.{Field}
+
+-- ---- one field
+
+-- what a hexadecimal digit counts, in either case; 16 for a byte that is none
+unfoldable pub digitOf : ℕ → ℕ
+digitOf c =
+    pick (leb 48 c && leb c 57) (c - 48)  -- 0 to 9
+    (pick (leb 65 c && leb c 70) (c - 55)  -- A to F
+    (pick (leb 97 c && leb c 102) (c - 87) 16))  -- a to f
+
+abbrev pub isDigit : ℕ → Bool
+isDigit c = ltb (digitOf c) 16
+
+-- one to eight digits
+unfoldable pub isNumber : List ℕ → Bool
+isNumber f = leb 1 (length f) && (leb (length f) 8 && everyIn isDigit f)
+
+-- the number that digits spell, where those before them spell v
+unfoldable pub spelled : ℕ → List ℕ → ℕ
+spelled v [] = v
+spelled v (c ∷ f) = spelled (v * 16 + digitOf c) f
+
+unfoldable pub numberOf : List ℕ → Field
+numberOf f = record { good = isNumber f; value = pick (isNumber f) (spelled 0 f) 0 }
+
+-- a field that is this one byte
+unfoldable pub isByte : ℕ → List ℕ → Bool
+isByte b [] = false
+isByte b (c ∷ []) = eqb c b
+isByte b (c ∷ d ∷ f) = false
+
+-- the target: one decimal digit; 10 for any other field
+unfoldable pub targetIn : List ℕ → ℕ
+targetIn [] = 10
+targetIn (c ∷ []) = pick (ltb (digitOf c) 10) (digitOf c) 10
+targetIn (c ∷ d ∷ f) = 10
+
+-- ---- the fields of a line
+
+-- a byte more at the front of the first field; a line always has one
+abbrev pub longer : ℕ → List (List ℕ) → List (List ℕ)
+longer c [] = (c ∷ []) ∷ []
+longer c (f ∷ fs) = (c ∷ f) ∷ fs
+
+-- all of them: every space parts two, so that two spaces part an empty one
+unfoldable pub fieldsOf : List ℕ → List (List ℕ)
+fieldsOf [] = [] ∷ []
+fieldsOf (c ∷ l) = pick (eqb c 32) ([] ∷ fieldsOf l) (longer c (fieldsOf l))
+
+-- ---- the fields in turn: r (114) or w (119), target, offset, enables, for w a word, and nothing more
+
+-- nothing behind the enables is a read, whose word nobody looks at and is 0; one field more is a write's word
+unfoldable pub wordNext : ℕ → ℕ → ℕ → ℕ → List (List ℕ) → Asked
+wordNext write t o e [] = pick (eqb write 0) (For (record { target = t; offset = o; write = 0; enables = e; word = 0 })) Bad
+wordNext write t o e (v ∷ []) =
+    pick (eqb write 0) Bad
+    (pick (isNumber v) (For (record { target = t; offset = o; write = 1; enables = e; word = spelled 0 v })) Bad)
+wordNext write t o e (v ∷ x ∷ fs) = Bad
+
+unfoldable pub enablesNext : ℕ → ℕ → ℕ → List (List ℕ) → Asked
+enablesNext write t o [] = Bad
+enablesNext write t o (e ∷ fs) = pick (isNumber e) (wordNext write t o (spelled 0 e) fs) Bad
+
+unfoldable pub offsetNext : ℕ → ℕ → List (List ℕ) → Asked
+offsetNext write t [] = Bad
+offsetNext write t (o ∷ fs) = pick (isNumber o) (enablesNext write t (spelled 0 o) fs) Bad
+
+unfoldable pub targetNext : ℕ → List (List ℕ) → Asked
+targetNext write [] = Bad
+targetNext write (t ∷ fs) = pick (ltb (targetIn t) 10) (offsetNext write (targetIn t) fs) Bad
+
+unfoldable pub kindFirst : List (List ℕ) → Asked
+kindFirst [] = Bad
+kindFirst (k ∷ fs) = pick (isByte 114 k) (targetNext 0 fs) (pick (isByte 119 k) (targetNext 1 fs) Bad)
+
+-- a line of over 64 bytes is of no form
+unfoldable pub lineOf : List ℕ → Asked
+lineOf l = pick (ltb 64 (length l)) Bad (kindFirst (fieldsOf l))

@@ -30,6 +30,8 @@ const TEMPTING: &[u32] = &[
 const BAD_KINDS: u32 = 31;
 /// How many kinds of interruption there are.
 const INTERRUPTIONS: u32 = 16;
+/// How many kinds of strides there are on a panel of several rows.
+const STRIDE_KINDS: u32 = 12;
 
 const COLOR_MODE: u8 = 0x18;
 const MISC_CONTROL: u8 = 0x1e;
@@ -49,6 +51,8 @@ pub fn trace(seed: u64, lines: usize, setup: Setup) -> Vec<u8> {
         header_words: Turn::new(64, seed, 6),
         tempting: Turn::new(TEMPTING.len(), seed, 5),
         base: 0,
+        stride: 0,
+        strides: Vec::new(),
         last_address: 0,
         bad_kinds: Vec::new(),
         stride_set: false,
@@ -102,6 +106,11 @@ struct Generator {
     tempting: Turn,
     /// The screen base that was set last, in units of eight bytes.
     base: u32,
+    /// The stride that was set last, in units of eight bytes.
+    stride: u32,
+    /// The kinds of strides still to come before each comes again, on a panel
+    /// of several rows.
+    strides: Vec<u32>,
     /// The RAMDAC address that was set last.
     last_address: u8,
     /// The kinds of bad lines still to come before each comes again.
@@ -198,7 +207,16 @@ impl Generator {
         }
     }
 
+    /// Whether the stride counts. What depends on this may not touch the
+    /// traces of panels with one row, which are stored.
+    fn rows(&self) -> bool {
+        self.setup.height > 1
+    }
+
     fn scene_by_weight(&mut self) -> Scene {
+        if self.rows() && self.rng.chance(1, 6) {
+            return Generator::live_stride;
+        }
         let weight: u32 = QUIET.iter().chain(LIVE).map(|s| s.0).sum();
         let mut at = self.rng.below(weight);
         for (part, scene) in QUIET.iter().chain(LIVE) {
@@ -399,6 +417,9 @@ impl Generator {
 
     /// An offset at which an aperture reaches the picture, mostly.
     fn visible_offset(&mut self) -> u32 {
+        if self.rows() && self.rng.chance(3, 4) {
+            return self.row_offset();
+        }
         let words = self.setup.memory_bytes / 4;
         let first = self.base.saturating_mul(2);
         let shown = self.setup.width.div_ceil(4);
@@ -408,6 +429,27 @@ impl Generator {
         } else {
             4 * self.rng.below(words)
         }
+    }
+
+    /// An offset at which an aperture reaches a row of the picture that is
+    /// fitted; the first and the last of them more often.
+    fn row_offset(&mut self) -> u32 {
+        let fitted = u64::from(self.setup.memory_bytes);
+        let first = 8 * u64::from(self.base);
+        let stride = 8 * u64::from(self.stride);
+        let rows = u64::from(self.setup.height);
+        let last = match fitted.saturating_sub(first + 1).checked_div(stride) {
+            Some(row) => row.min(rows - 1) as u32,
+            None => self.setup.height - 1,
+        };
+        let row = match self.rng.below(8) {
+            0 => 0,
+            1 => last,
+            _ => self.rng.below(last + 1),
+        };
+        let x = self.rng.below(self.setup.width);
+        let place = first + stride * u64::from(row) + u64::from(x);
+        (place.min(fitted - 1) & !3) as u32
     }
 
     /// An offset of an aperture, also beyond fitted memory.
@@ -537,6 +579,12 @@ impl Generator {
     fn set_good_base(&mut self) {
         let units = self.setup.memory_bytes / 8;
         let last = units.saturating_sub(self.setup.width / 8).max(1);
+        if self.rows() && self.rng.chance(1, 2) {
+            // Most rows stay fitted.
+            self.base = self.rng.below(last.min(1 + self.setup.width / 4));
+            self.write(0, SCREEN_BASE, 15, self.base);
+            return;
+        }
         self.base = if self.rng.chance(1, 2) {
             0
         } else {
@@ -547,6 +595,11 @@ impl Generator {
     }
 
     fn set_stride(&mut self) {
+        if self.rows() {
+            let stride = self.next_stride();
+            self.write_stride(stride);
+            return;
+        }
         let row = self.setup.width.div_ceil(8);
         let stride = match self.rng.below(8) {
             0 => 0,
@@ -559,6 +612,44 @@ impl Generator {
         };
         self.stride_set = true;
         self.write(0, SCREEN_STRIDE, 15, stride);
+    }
+
+    /// Strides of every kind in turn: none, smaller than a row, a row, larger
+    /// with many rows or all still fitted, and so large that few are.
+    fn next_stride(&mut self) -> u32 {
+        let row = self.setup.width.div_ceil(8);
+        let units = self.setup.memory_bytes / 8;
+        // The largest with which every row begins in fitted memory.
+        let fitting = (units - 1) / (self.setup.height - 1);
+        if self.strides.is_empty() {
+            self.strides = (0..STRIDE_KINDS).collect();
+            self.rng.shuffle(&mut self.strides);
+        }
+        match self.strides.pop().unwrap_or(0) {
+            0 | 1 => 0,
+            2 => 1,
+            3 => row.saturating_sub(1),
+            4 => self.rng.below(row),
+            5..=7 => row,
+            8 => row + 1,
+            9 => fitting.max(row + 1),
+            10 => row + 1 + self.rng.below(units),
+            _ => {
+                let word = self.rng.word();
+                self.rng.pick(&[word, 0xffff_ffff, 0x000f_ffff, units])
+            }
+        }
+    }
+
+    fn write_stride(&mut self, stride: u32) {
+        self.stride_set = true;
+        self.stride = stride & 0x000f_ffff;
+        let high = if self.rng.chance(1, 4) {
+            0xfff0_0000
+        } else {
+            0
+        };
+        self.write(0, SCREEN_STRIDE, 15, stride | high);
     }
 
     /// An aperture in a served mode, which the steps after it use.
@@ -579,7 +670,7 @@ impl Generator {
         let mode = self.drawn_mode();
         self.index(COLOR_MODE, mode);
         self.set_good_base();
-        if !self.stride_set || self.rng.chance(1, 4) {
+        if !self.stride_set || self.rng.chance(1, 4) || self.rows() {
             self.set_stride();
         }
         if self.rng.chance(4, 5) {
@@ -1322,6 +1413,9 @@ impl Generator {
         let mode = self.drawn_mode();
         self.index(COLOR_MODE, mode);
         self.set_good_base();
+        if self.rows() {
+            self.set_stride();
+        }
         self.write(0, PIXEL_MASK, 1, 0xff);
         if self.rng.chance(1, 2) {
             self.load_pool(2);
@@ -1479,6 +1573,39 @@ impl Generator {
         let mode = self.drawn_mode();
         self.index(COLOR_MODE, mode);
         self.set_good_base();
+    }
+
+    /// A picture whose rows differ, moved about by strides of every kind; on
+    /// panels of several rows.
+    fn live_stride(&mut self) {
+        let target = self.open_aperture();
+        self.load_pool(3);
+        self.write(0, PIXEL_MASK, 1, 0xff);
+        self.set_good_base();
+        let steps = 6 + self.rng.below(8);
+        for _ in 0..steps {
+            match self.rng.below(8) {
+                0 => {
+                    // Lane by lane: what lies between is shown as well.
+                    let stride = self.next_stride() & 0x000f_ffff;
+                    let mut lanes = [1, 2, 4];
+                    self.rng.shuffle(&mut lanes);
+                    for lane in lanes {
+                        self.write(0, SCREEN_STRIDE, lane, stride);
+                    }
+                    self.stride = stride;
+                }
+                1 => self.set_good_base(),
+                _ => self.set_stride(),
+            }
+            let writes = 1 + self.rng.below(4);
+            for _ in 0..writes {
+                let offset = self.row_offset();
+                let enables = self.low_enables();
+                let dots = self.dots();
+                self.write(target, offset, enables, dots);
+            }
+        }
     }
 
     /// Registers that must not alter the picture or an aperture.

@@ -11,6 +11,7 @@ mod model;
 mod net;
 mod offsets;
 mod picture;
+mod ppm;
 mod rng;
 mod selftest;
 mod state;
@@ -26,7 +27,7 @@ use breaks::Break;
 use trace::{Failure, Setup, USUAL};
 
 const USAGE: &str = "usage:
-  second trace [WIDTHxHEIGHT BYTES] [--check] [--break N]
+  second trace [WIDTHxHEIGHT BYTES] [--check] [--picture FILE] [--break N]
   second generate SEED LINES [WIDTHxHEIGHT BYTES]
   second stats FILE [WIDTHxHEIGHT BYTES]
   second selftest [--seed N] [--panels N] [--lines N] [--break N]
@@ -48,6 +49,7 @@ fn main() -> ExitCode {
 struct Line {
     words: Vec<String>,
     check: bool,
+    picture: Option<String>,
     broken: Break,
     seed: u64,
     panels: u32,
@@ -58,6 +60,7 @@ fn take_apart(arguments: &[String]) -> Result<Line, String> {
     let mut line = Line {
         words: Vec::new(),
         check: false,
+        picture: None,
         broken: Break::Nothing,
         seed: 1,
         panels: 40,
@@ -65,6 +68,11 @@ fn take_apart(arguments: &[String]) -> Result<Line, String> {
     };
     let mut rest = arguments.iter();
     while let Some(word) = rest.next() {
+        if word == "--picture" {
+            let file = rest.next().ok_or(format!("{word} needs a file"))?;
+            line.picture = Some(file.clone());
+            continue;
+        }
         let mut number = || -> Result<u64, String> {
             let value = rest.next().ok_or(format!("{word} needs a number"))?;
             value
@@ -112,8 +120,14 @@ fn command(arguments: &[String]) -> Result<ExitCode, String> {
             let mut output = BufWriter::new(io::stdout().lock());
             let outcome = trace::run(line.broken, setup, line.check, &mut input, &mut output);
             let flushed = output.flush();
-            match outcome.and(flushed.map_err(Failure::Io)) {
-                Ok(()) => Ok(ExitCode::SUCCESS),
+            match outcome.and_then(|machine| flushed.map(|()| machine).map_err(Failure::Io)) {
+                Ok(machine) => {
+                    if let Some(file) = &line.picture {
+                        std::fs::write(file, machine.picture_file())
+                            .map_err(|error| format!("{file}: {error}"))?;
+                    }
+                    Ok(ExitCode::SUCCESS)
+                }
                 Err(Failure::Wrong(text)) => {
                     eprintln!("second: {text}");
                     Ok(ExitCode::from(1))

@@ -8,6 +8,7 @@ use crate::breaks::Break;
 use crate::check;
 use crate::generate;
 use crate::model::{Access, Answer, Model};
+use crate::ppm;
 use crate::rng::Rng;
 use crate::state::{Entry, Stage, State};
 use crate::trace::{self, Setup};
@@ -38,6 +39,7 @@ pub fn run(broken: Break, seed: u64, panels: u32, lines: usize) -> Vec<String> {
         ("states", states),
         ("trace program", trace_program),
         ("bad lines", bad_lines),
+        ("picture files", picture_files),
     ];
     let mut list = Tests {
         broken,
@@ -1223,7 +1225,7 @@ fn printed(tests: &Tests, input: &[u8]) -> String {
         &mut output,
     );
     match run {
-        Ok(()) => String::from_utf8_lossy(&output).into_owned(),
+        Ok(_) => String::from_utf8_lossy(&output).into_owned(),
         Err(failure) => format!("{failure:?}"),
     }
 }
@@ -1324,6 +1326,70 @@ fn bad_lines(tests: &mut Tests) {
     ] {
         let got = printed(tests, line.as_bytes());
         tests.equal(line, got, format!("PERMEDIA2 4x1 16\n{answer}\n"));
+    }
+}
+
+fn picture_files(tests: &mut Tests) {
+    let shown = [
+        (0x0100_0000, [0x00, 0x00, 0x00]),
+        (0x0112_3456, [0x12, 0x34, 0x56]),
+        (0x01ff_ffff, [0xff, 0xff, 0xff]),
+        (0x0200_0000, [0xff, 0x00, 0xff]),
+        (0x0300_0000, [0xff, 0x80, 0x00]),
+        (0x0400_0000, [0x80, 0xff, 0x00]),
+        (0x0500_0000, [0x00, 0xff, 0xff]),
+        (0x0000_0000, [0xff, 0xff, 0xff]),
+        (0x0600_0000, [0xff, 0xff, 0xff]),
+        (0xff12_3456, [0xff, 0xff, 0xff]),
+    ];
+    let words = shown.map(|(word, _)| word);
+    let mut expected = b"P6\n5 2\n255\n".to_vec();
+    expected.extend(shown.iter().flat_map(|(_, colour)| colour));
+    tests.equal("kinds of dots", ppm::file(5, 2, &words), expected);
+
+    // Two rows of two dots, in each of the ways that a trace reaches: black
+    // and never stored stay apart.
+    let mode = "w 0 4000 1 18\nw 0 4050 1 10\n";
+    let places = "w 0 3000 f 0\nw 0 3008 f 1\n";
+    let black = "w 0 4000 1 0\nw 0 4008 1 0\nw 0 4008 1 0\nw 0 4008 1 0\n";
+    let cases = [
+        ("nothing", String::new(), [[0xff, 0x80, 0x00]; 4]),
+        ("mode", mode.to_string(), [[0x00, 0xff, 0xff]; 4]),
+        ("places", format!("{mode}{places}"), [[0x80, 0xff, 0x00]; 4]),
+        (
+            "a black entry",
+            format!("{mode}{places}{black}w 1 8 1 3\n"),
+            [[0, 0, 0], [0, 0, 0], [0x80, 0xff, 0x00], [0, 0, 0]],
+        ),
+        (
+            "beyond",
+            format!("{mode}{places}{black}w 0 3000 f 1\n"),
+            [[0, 0, 0], [0, 0, 0], [0xff, 0, 0xff], [0xff, 0, 0xff]],
+        ),
+        (
+            "a colour",
+            format!("{mode}{places}{black}w 0 4000 1 1e\nw 0 4050 1 2\nw 0 4000 1 0\nw 0 4008 1 12\nw 0 4008 1 34\nw 0 4008 1 56\n"),
+            [[0x12, 0x34, 0x56]; 4],
+        ),
+    ];
+    for (what, input, dots) in cases {
+        let run = trace::run(
+            tests.broken,
+            Setup {
+                width: 2,
+                height: 2,
+                memory_bytes: 16,
+            },
+            true,
+            &mut BufReader::new(input.as_bytes()),
+            &mut Vec::new(),
+        );
+        let mut expected = b"P6\n2 2\n255\n".to_vec();
+        expected.extend(dots.iter().flatten());
+        match run {
+            Ok(machine) => tests.equal(what, machine.picture_file(), expected),
+            Err(failure) => tests.complain(format!("{what}: {failure:?}")),
+        }
     }
 }
 

@@ -5,6 +5,7 @@ use std::io::{self, BufRead, Write};
 use crate::breaks::{Break, Rule};
 use crate::check;
 use crate::model::{Access, Answer, Model, DONE};
+use crate::ppm;
 use crate::state::{side_fits, State, MEMORY_LIMIT};
 
 /// A line of more bytes than this, its newline left out, is bad.
@@ -90,6 +91,11 @@ impl Machine {
             None => Ok(Outcome::Bad),
         }
     }
+
+    /// The picture as it is now, as the bytes of a file.
+    pub fn picture_file(&self) -> Vec<u8> {
+        ppm::file(self.state.width, self.state.height, &self.picture)
+    }
 }
 
 /// Why a trace ended early.
@@ -106,13 +112,14 @@ impl From<io::Error> for Failure {
 }
 
 /// Runs a whole trace: the header line, then one line for every line read.
+/// Gives the machine as the last line left it.
 pub fn run(
     broken: Break,
     setup: Setup,
     check: bool,
     input: &mut dyn BufRead,
     output: &mut dyn Write,
-) -> Result<(), Failure> {
+) -> Result<Machine, Failure> {
     let mut machine = Machine::open(broken, setup, check).map_err(Failure::Wrong)?;
     writeln!(
         output,
@@ -149,7 +156,7 @@ pub fn run(
             )?,
         }
     }
-    Ok(())
+    Ok(machine)
 }
 
 /// Takes input apart into lines. Of a long line only the first bytes are kept,

@@ -1,4 +1,5 @@
 // The loop over standard input: lines gathered from chunks of any size, each carried out and answered at once.
+use crate::explain::say_access;
 use crate::say::say;
 use chip::State;
 use model::access::access;
@@ -22,8 +23,21 @@ struct Round {
     kept: Kept,
 }
 
-// A line's answer; a line of another form alters nothing.
-fn answer_line(s: State, line: &[u8], memory: &mut [u8], picture: &mut [u32]) -> State {
+// The trace's line for an answer.
+fn say_answer(status: u32, shown: u32, known: u32, changed: u32) {
+    let mut out = [0u8; 40];
+    let n = write(status, shown, known, changed, &mut out);
+    say(&out[..n]);
+}
+
+// A line's answer, in the trace's form or in words; a line of another form alters nothing.
+fn answer_line(
+    s: State,
+    words: bool,
+    line: &[u8],
+    memory: &mut [u8],
+    picture: &mut [u32],
+) -> State {
     let asked = read(line);
     match asked {
         Asked::Bad => {
@@ -32,22 +46,31 @@ fn answer_line(s: State, line: &[u8], memory: &mut [u8], picture: &mut [u32]) ->
         }
         Asked::For(a) => {
             let r = access(s, a, memory, picture);
-            let mut out = [0u8; 40];
-            let n = write(r.status, r.word, r.known, r.changed, &mut out);
-            say(&out[..n]);
+            if words {
+                say_access(s.dac, a, r.status, r.word, r.known, r.changed);
+            } else {
+                say_answer(r.status, r.word, r.known, r.changed);
+            }
             r.state
         }
     }
 }
 
 // A line that is whole is answered, and the next one starts.
-fn settle(s: State, t: Taken, line: &[u8], memory: &mut [u8], picture: &mut [u32]) -> Kept
+fn settle(
+    s: State,
+    words: bool,
+    t: Taken,
+    line: &[u8],
+    memory: &mut [u8],
+    picture: &mut [u32],
+) -> Kept
     requires { ⌜ t .held ≤ length (now line) ⌝ }
     ensures { λ r. ⌜ r .held ≤ length (now (line .entry)) ⌝ }
 {
     let held = t.held;
     if t.whole {
-        let next = answer_line(s, &line[..held], memory, picture);
+        let next = answer_line(s, words, &line[..held], memory, picture);
         return Kept {
             state: next,
             held: 0,
@@ -57,7 +80,14 @@ fn settle(s: State, t: Taken, line: &[u8], memory: &mut [u8], picture: &mut [u32
 }
 
 // One chunk.
-fn feed(k: Kept, chunk: &[u8], line: &mut [u8], memory: &mut [u8], picture: &mut [u32]) -> Kept
+fn feed(
+    k: Kept,
+    words: bool,
+    chunk: &[u8],
+    line: &mut [u8],
+    memory: &mut [u8],
+    picture: &mut [u32],
+) -> Kept
     requires { ⌜ k .held ≤ length (now line) ⌝ }
     ensures { λ r. ⌜ r .held ≤ length (now (line .entry)) ⌝ }
 {
@@ -65,14 +95,14 @@ fn feed(k: Kept, chunk: &[u8], line: &mut [u8], memory: &mut [u8], picture: &mut
     let mut from = 0;
     while from < chunk.len() {
         let t = gather(chunk, from, line, now_kept.held);
-        now_kept = settle(now_kept.state, t, line, memory, picture);
+        now_kept = settle(now_kept.state, words, t, line, memory, picture);
         from = t.next;
     }
     now_kept
 }
 
 // Reads once; no more where the input ends or can't be read.
-fn turn(k: Kept, line: &mut [u8], memory: &mut [u8], picture: &mut [u32]) -> Round
+fn turn(k: Kept, words: bool, line: &mut [u8], memory: &mut [u8], picture: &mut [u32]) -> Round
     requires { ⌜ k .held ≤ length (now line) ⌝ }
     ensures { λ r. ⌜ r .kept .held ≤ length (now (line .entry)) ⌝ }
 {
@@ -92,7 +122,7 @@ fn turn(k: Kept, line: &mut [u8], memory: &mut [u8], picture: &mut [u32]) -> Rou
         };
     }
     let n = io::count(got, &chunk);
-    let next = feed(k, &chunk[..n], line, memory, picture);
+    let next = feed(k, words, &chunk[..n], line, memory, picture);
     Round {
         more: true,
         kept: next,
@@ -101,20 +131,20 @@ fn turn(k: Kept, line: &mut [u8], memory: &mut [u8], picture: &mut [u32]) -> Rou
 
 // All of standard input, from a state on. A last line without its newline is a line; one of no bytes is none. A proved loop has to end, so it counts
 // its turns down from a number that no run uses up.
-pub(crate) fn run(s: State, memory: &mut [u8], picture: &mut [u32]) -> State {
+pub(crate) fn run(s: State, words: bool, memory: &mut [u8], picture: &mut [u32]) -> State {
     let mut line = [0u8; 65];
     let mut k = Kept { state: s, held: 0 };
     let mut turns = u64::MAX;
     let mut more = true;
     while more && turns > 0 {
-        let t = turn(k, &mut line, memory, picture);
+        let t = turn(k, words, &mut line, memory, picture);
         k = t.kept;
         more = t.more;
         turns -= 1;
     }
     let held = k.held;
     if 0 < held {
-        return answer_line(k.state, &line[..held], memory, picture);
+        return answer_line(k.state, words, &line[..held], memory, picture);
     }
     k.state
 }

@@ -8,5 +8,5 @@ pub fn trace() {
     let mut picture = [0u32; 4];
     let o = open(4, 1, &mut memory, &mut picture);
     say(b"PERMEDIA2 4x1 16\n");
-    run(o.state, &mut memory, &mut picture);
+    run(o.state, false, &mut memory, &mut picture);
 }

@@ -6,3 +6,5 @@ pub mod GatherLaws
 pub mod Gathered
 pub mod OneOutcome
 pub mod Examples
+pub mod SizeLaws
+pub mod ShownLaws

@@ -70,12 +70,12 @@ fields-split l e q n =
 
 -- ---- a number in it
 
-module _ (n : Field) (f : List ℕ) (q : n ≡ numberOf f) where
-  good-is : n .good ≡ isNumber f
+module _ (n : Field) (f : List ℕ) (q : n ≡ numberOf 16 f) where
+  good-is : n .good ≡ isNumber 16 f
   unfolding numberOf
   good-is = ap (λ (k : Field). k .good) q
 
-  value-is : n .good ≡ true → n .value ≡ spelled 0 f
+  value-is : n .good ≡ true → n .value ≡ spelled 16 0 f
   unfolding numberOf
   value-is g = ap (λ (k : Field). k .value) q ∙ simp (sym good-is ∙ g)
 
@@ -102,7 +102,7 @@ module _ (l : List ℕ) (w t o e : ℕ) where
       many : (f : List ℕ) (fs : List (List ℕ)) → Bad ≡ wordNext w t o e (upTo 32 l ∷ f ∷ fs)
       many f fs = refl
 
-  module _ (d : ℕ) (q : d ≡ length (upTo 32 l)) (h : d ≡ length l) (z : w ≡ 0 → ⊥) (n : Field) (u : n ≡ numberOf l) where
+  module _ (d : ℕ) (q : d ≡ length (upTo 32 l)) (h : d ≡ length l) (z : w ≡ 0 → ⊥) (n : Field) (u : n ≡ numberOf 16 l) where
     pub word-bad : n .good ≡ false → Bad ≡ wordNext w t o e (fieldsOf l)
     unfolding wordNext
     word-bad g =
@@ -119,9 +119,9 @@ module _ (l : List ℕ) (w t o e : ℕ) where
 
 -- ---- enables and offset
 
-module _ (l : List ℕ) (w t o : ℕ) (d : ℕ) (q : d ≡ length (upTo 32 l)) (n : Field) (u : n ≡ numberOf (take d l)) where
-  there : n ≡ numberOf (upTo 32 l)
-  there = u ∙ ap numberOf (first-field l d q)
+module _ (l : List ℕ) (w t o : ℕ) (d : ℕ) (q : d ≡ length (upTo 32 l)) (n : Field) (u : n ≡ numberOf 16 (take d l)) where
+  there : n ≡ numberOf 16 (upTo 32 l)
+  there = u ∙ ap (numberOf 16) (first-field l d q)
 
   pub enables-bad : n .good ≡ false → Bad ≡ enablesNext w t o (fieldsOf l)
   unfolding enablesNext
@@ -166,7 +166,7 @@ unfolding offsetNext enablesNext
 offset-last l w t d q h = subst (λ (k : List (List ℕ)). Bad ≡ offsetNext w t k) (sym (fields-last l (sym q ∙ h))) alone
   where
     alone : Bad ≡ offsetNext w t (l ∷ [])
-    alone = byTest (isNumber l) (λ e. simp e) (λ e. simp e)
+    alone = byTest (isNumber 16 l) (λ e. simp e) (λ e. simp e)
 
 -- ---- one byte: the target, and r or w
 

@@ -4,6 +4,7 @@ use Prim.Native.Nat.{ℕ, suc, _+_, _-_, _*_, _^_, _<_, _≤_}
 use mathlib.Core.Bool.{true, false}
 use mathlib.Core.List.{List, [], _∷_}
 use mathlib.Core.Path.{_≡_, refl, sym, ap, subst, _∙_}
+use native.Mathlib.Nat.{mul-le-mul}
 use native.Mathlib.Omega.{arith}
 use borrow.Author.Tests.{lt-ltb, le-ltb, le-leb, lt-leb, leb-true}
 use lib.Dec.{leb}
@@ -60,69 +61,73 @@ module _ (c : ℕ) where
 pub power-small : (i : ℕ) → i < 8 → 16 ^ i ≤ 0x10000000
 power-small i h = leb-true (16 ^ i) 0x10000000 (every-at (λ (k : ℕ). leb (16 ^ k) 0x10000000) 8 i refl h)
 
-pub power-next : (i v d : ℕ) → v < 16 ^ i → d < 16 → v * 16 + d < 16 ^ (i + 1)
-power-next i v d h g =
+pub times-less : (v base : ℕ) → base ≤ 16 → v * base ≤ v * 16
+times-less v base b = mul-le-mul {n₂ = v} {m₂ = 16} (omega arith) b
+
+pub power-next : (i v d base : ℕ) → base ≤ 16 → v < 16 ^ i → d < base → v * base + d < 16 ^ (i + 1)
+power-next i v d base b h g =
     let j : i + 1 ≡ suc i = omega arith in
-    subst (λ (k : ℕ). v * 16 + d < 16 ^ k) (sym j) (omega arith)
+    let m = times-less v base b in
+    subst (λ (k : ℕ). v * base + d < 16 ^ k) (sym j) (omega arith)
 
 -- digits have been read up to place i: they spell v
-pub record Read (l : List ℕ) (v i : ℕ) : Type 0 where
+pub record Read (base : ℕ) (l : List ℕ) (v i : ℕ) : Type 0 where
   pub within : i ≤ length l
   pub small : v < 16 ^ i
-  pub spells : spelled 0 l ≡ spelled v (drop i l)
-  pub digits : everyIn isDigit l ≡ everyIn isDigit (drop i l)
+  pub spells : spelled base 0 l ≡ spelled base v (drop i l)
+  pub digits : everyIn (isDigit base) l ≡ everyIn (isDigit base) (drop i l)
 
-pub read-first : (l : List ℕ) → Read l 0 0
-read-first l = record { within = omega arith; small = omega arith; spells = refl; digits = refl }
+pub read-first : (base : ℕ) (l : List ℕ) → Read base l 0 0
+read-first base l = record { within = omega arith; small = omega arith; spells = refl; digits = refl }
 
-module _ (l : List ℕ) (v i : ℕ) (h : i < length l) (r : Read l v i) where
-  first-passes : digitOf (getD l i 0) < 16 → everyIn isDigit (getD l i 0 ∷ drop (suc i) l) ≡ everyIn isDigit (drop (suc i) l)
-  first-passes g = simp (lt-ltb (digitOf (getD l i 0)) 16 g)
+module _ (base : ℕ) (b : base ≤ 16) (l : List ℕ) (v i : ℕ) (h : i < length l) (r : Read base l v i) where
+  first-passes : digitOf (getD l i 0) < base → everyIn (isDigit base) (getD l i 0 ∷ drop (suc i) l) ≡ everyIn (isDigit base) (drop (suc i) l)
+  first-passes g = simp (lt-ltb (digitOf (getD l i 0)) base g)
 
-  first-fails : 16 ≤ digitOf (getD l i 0) → everyIn isDigit (getD l i 0 ∷ drop (suc i) l) ≡ false
-  first-fails g = simp (le-ltb (digitOf (getD l i 0)) 16 g)
+  first-fails : base ≤ digitOf (getD l i 0) → everyIn (isDigit base) (getD l i 0 ∷ drop (suc i) l) ≡ false
+  first-fails g = simp (le-ltb (digitOf (getD l i 0)) base g)
 
-  pub read-on : (d : ℕ) → d ≡ digitOf (getD l i 0) → d ≤ 15 → Read l (v * 16 + d) (i + 1)
+  pub read-on : (d : ℕ) → d ≡ digitOf (getD l i 0) → d < base → Read base l (v * base + d) (i + 1)
   unfolding spelled
   read-on d e g =
       let j : i + 1 ≡ suc i = omega arith in
       record {
         within = omega arith;
-        small = power-next i v d (r .small) (omega arith);
-        spells = r .spells ∙ ap (spelled v) (drop-cons l i 0 h) ∙ ap (λ (k : ℕ). spelled (v * 16 + k) (drop (suc i) l)) (sym e) ∙ ap (λ (k : ℕ). spelled (v * 16 + d) (drop k l)) (sym j);
-        digits = r .digits ∙ ap (everyIn isDigit) (drop-cons l i 0 h) ∙ first-passes (subst (λ (k : ℕ). k < 16) e (omega arith)) ∙ ap (λ (k : ℕ). everyIn isDigit (drop k l)) (sym j);
+        small = power-next i v d base b (r .small) g;
+        spells = r .spells ∙ ap (spelled base v) (drop-cons l i 0 h) ∙ ap (λ (k : ℕ). spelled base (v * base + k) (drop (suc i) l)) (sym e) ∙ ap (λ (k : ℕ). spelled base (v * base + d) (drop k l)) (sym j);
+        digits = r .digits ∙ ap (everyIn (isDigit base)) (drop-cons l i 0 h) ∙ first-passes (subst (λ (k : ℕ). k < base) e g) ∙ ap (λ (k : ℕ). everyIn (isDigit base) (drop k l)) (sym j);
       }
 
-  pub read-bad : (d : ℕ) → d ≡ digitOf (getD l i 0) → 15 < d → everyIn isDigit l ≡ false
+  pub read-bad : (d : ℕ) → d ≡ digitOf (getD l i 0) → base ≤ d → everyIn (isDigit base) l ≡ false
   read-bad d e g =
-      r .digits ∙ ap (everyIn isDigit) (drop-cons l i 0 h) ∙ first-fails (subst (λ (k : ℕ). 16 ≤ k) e (omega arith))
+      r .digits ∙ ap (everyIn (isDigit base)) (drop-cons l i 0 h) ∙ first-fails (subst (λ (k : ℕ). base ≤ k) e g)
 
-pub read-all : (l : List ℕ) (v i : ℕ) → length l ≤ i → Read l v i → (everyIn isDigit l ≡ true) × (spelled 0 l ≡ v)
+pub read-all : (base : ℕ) (l : List ℕ) (v i : ℕ) → length l ≤ i → Read base l v i → (everyIn (isDigit base) l ≡ true) × (spelled base 0 l ≡ v)
 unfolding spelled
-read-all l v i h r =
+read-all base l v i h r =
     let j : i ≡ length l = let w = r .within in omega arith in
     let e : drop i l ≡ [] = ap (λ (k : ℕ). drop k l) j ∙ drop-length l in
-    (r .digits ∙ ap (everyIn isDigit) e, r .spells ∙ ap (spelled v) e)
+    (r .digits ∙ ap (everyIn (isDigit base)) e, r .spells ∙ ap (spelled base v) e)
 
 -- ---- the field
 
 abbrev pub none : Field
 none = record { good = false; value = 0 }
 
-module _ (l : List ℕ) where
-  pub number-empty : length l ≡ 0 → none ≡ numberOf l
+module _ (base : ℕ) (l : List ℕ) where
+  pub number-empty : length l ≡ 0 → none ≡ numberOf base l
   unfolding numberOf isNumber
   number-empty e = simp (lt-leb 1 (length l) (omega arith))
 
-  pub number-long : 8 < length l → none ≡ numberOf l
+  pub number-long : 8 < length l → none ≡ numberOf base l
   unfolding numberOf isNumber
   number-long h = simp (le-leb 1 (length l) (omega arith), lt-leb (length l) 8 h)
 
-  pub number-bad : everyIn isDigit l ≡ false → none ≡ numberOf l
+  pub number-bad : everyIn (isDigit base) l ≡ false → none ≡ numberOf base l
   unfolding numberOf isNumber
   number-bad e = simp (e, and-false (leb (length l) 8), and-false (leb 1 (length l)))
 
-  pub number-good : (v : ℕ) → (length l ≡ 0 → ⊥) → length l ≤ 8 → (everyIn isDigit l ≡ true) × (spelled 0 l ≡ v)
-      → record { good = true; value = v } ≡ numberOf l
+  pub number-good : (v : ℕ) → (length l ≡ 0 → ⊥) → length l ≤ 8 → (everyIn (isDigit base) l ≡ true) × (spelled base 0 l ≡ v)
+      → record { good = true; value = v } ≡ numberOf base l
   unfolding numberOf isNumber
   number-good v n h e = simp (le-leb 1 (length l) (omega arith), le-leb (length l) 8 h, e .0, e .1)

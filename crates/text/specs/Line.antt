@@ -18,20 +18,20 @@ digitOf c =
     (pick (leb 65 c && leb c 70) (c - 55)  -- A to F
     (pick (leb 97 c && leb c 102) (c - 87) 16))  -- a to f
 
-abbrev pub isDigit : ℕ → Bool
-isDigit c = ltb (digitOf c) 16
+abbrev pub isDigit : ℕ → ℕ → Bool
+isDigit base c = ltb (digitOf c) base
 
--- one to eight digits
-unfoldable pub isNumber : List ℕ → Bool
-isNumber f = leb 1 (length f) && (leb (length f) 8 && everyIn isDigit f)
+-- one to eight digits of a base
+unfoldable pub isNumber : ℕ → List ℕ → Bool
+isNumber base f = leb 1 (length f) && (leb (length f) 8 && everyIn (isDigit base) f)
 
 -- the number that digits spell, where those before them spell v
-unfoldable pub spelled : ℕ → List ℕ → ℕ
-spelled v [] = v
-spelled v (c ∷ f) = spelled (v * 16 + digitOf c) f
+unfoldable pub spelled : ℕ → ℕ → List ℕ → ℕ
+spelled base v [] = v
+spelled base v (c ∷ f) = spelled base (v * base + digitOf c) f
 
-unfoldable pub numberOf : List ℕ → Field
-numberOf f = record { good = isNumber f; value = pick (isNumber f) (spelled 0 f) 0 }
+unfoldable pub numberOf : ℕ → List ℕ → Field
+numberOf base f = record { good = isNumber base f; value = pick (isNumber base f) (spelled base 0 f) 0 }
 
 -- a field that is this one byte
 unfoldable pub isByte : ℕ → List ℕ → Bool
@@ -64,16 +64,16 @@ unfoldable pub wordNext : ℕ → ℕ → ℕ → ℕ → List (List ℕ) → As
 wordNext write t o e [] = pick (eqb write 0) (For (record { target = t; offset = o; write = 0; enables = e; word = 0 })) Bad
 wordNext write t o e (v ∷ []) =
     pick (eqb write 0) Bad
-    (pick (isNumber v) (For (record { target = t; offset = o; write = 1; enables = e; word = spelled 0 v })) Bad)
+    (pick (isNumber 16 v) (For (record { target = t; offset = o; write = 1; enables = e; word = spelled 16 0 v })) Bad)
 wordNext write t o e (v ∷ x ∷ fs) = Bad
 
 unfoldable pub enablesNext : ℕ → ℕ → ℕ → List (List ℕ) → Asked
 enablesNext write t o [] = Bad
-enablesNext write t o (e ∷ fs) = pick (isNumber e) (wordNext write t o (spelled 0 e) fs) Bad
+enablesNext write t o (e ∷ fs) = pick (isNumber 16 e) (wordNext write t o (spelled 16 0 e) fs) Bad
 
 unfoldable pub offsetNext : ℕ → ℕ → List (List ℕ) → Asked
 offsetNext write t [] = Bad
-offsetNext write t (o ∷ fs) = pick (isNumber o) (enablesNext write t (spelled 0 o) fs) Bad
+offsetNext write t (o ∷ fs) = pick (isNumber 16 o) (enablesNext write t (spelled 16 0 o) fs) Bad
 
 unfoldable pub targetNext : ℕ → List (List ℕ) → Asked
 targetNext write [] = Bad

@@ -4,7 +4,7 @@ ghost use lib.ListN.{length};
 ghost use Rattle.text.specs.Gather.{upTo};
 
 // How many bytes stand before the first b: the length where there is none.
-pub(crate) fn find(s: &[u8], b: u8) -> usize
+pub fn find(s: &[u8], b: u8) -> usize
     ensures { λ r. ⌜ r ≡ length (upTo b (now (s .entry))) ⌝ }
 {
     let mut i = 0;

@@ -54,7 +54,7 @@ fn offset(s: &[u8], write: u32, t: u32) -> Asked
     if e == s.len() {
         return Asked::Bad;
     }
-    let n = number(&s[..e]);
+    let n = number(16, &s[..e]);
     if !n.good {
         return Asked::Bad;
     }
@@ -65,7 +65,7 @@ fn enables(s: &[u8], write: u32, t: u32, o: u32) -> Asked
     ensures { λ r. ⌜ r ≡ enablesNext write t o (fieldsOf (now (s .entry))) ⌝ }
 {
     let e = find(s, SPACE);
-    let n = number(&s[..e]);
+    let n = number(16, &s[..e]);
     if !n.good {
         return Asked::Bad;
     }
@@ -100,7 +100,7 @@ fn word(s: &[u8], write: u32, t: u32, o: u32, e: u32) -> Asked
     if find(s, SPACE) != s.len() {
         return Asked::Bad;
     }
-    let n = number(s);
+    let n = number(16, s);
     if !n.good {
         return Asked::Bad;
     }

@@ -1,6 +1,7 @@
-// A field that is a number: one to eight hexadecimal digits.
+// A field that is a number: one to eight digits of a base up to 16.
 use crate::Field;
 ghost use mathlib.Core.Path.{_≡_};
+ghost use Prim.Native.Nat.{_≤_};
 ghost use Rattle.text.specs.Line.{digitOf, numberOf};
 
 // What a digit counts; 16 for a byte that is none.
@@ -29,8 +30,9 @@ pub(crate) fn digit(b: u8) -> u32
     16
 }
 
-pub(crate) fn number(s: &[u8]) -> Field
-    ensures { λ r. ⌜ r ≡ numberOf (now (s .entry)) ⌝ }
+pub(crate) fn number(base: u32, s: &[u8]) -> Field
+    requires { ⌜ base ≤ 16 ⌝ }
+    ensures { λ r. ⌜ r ≡ numberOf base (now (s .entry)) ⌝ }
 {
     if s.len() == 0 {
         return Field {
@@ -48,13 +50,13 @@ pub(crate) fn number(s: &[u8]) -> Field
     let mut i = 0;
     while i < s.len() {
         let d = digit(s[i]);
-        if 15 < d {
+        if base <= d {
             return Field {
                 good: false,
                 value: 0,
             };
         }
-        v = v * 16 + d;
+        v = v * base + d;
         i += 1;
     }
     Field {

@@ -6,7 +6,7 @@ ghost use lib.ListN.{length};
 ghost use Rattle.text.specs.Numeral.{glyphOf, isShort, numeralOf};
 ghost use Rattle.text.specs.Answer.{Wrote};
 
-fn glyph(d: u32) -> u8
+pub(crate) fn glyph(d: u32) -> u8
     requires { ⌜ d < 16 ⌝ }
     ensures { λ r. ⌜ r ≡ glyphOf d ⌝ }
 {

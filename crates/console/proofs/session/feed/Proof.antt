@@ -10,10 +10,10 @@ use Rattle.console.proofs.session.feed.Statement.{statement}
 use Rattle.console.proofs.session.feed.Tie as tie
 
 abbrev Inv-loop : tie.InvT-loop
-Inv-loop chunk line₀ memory₀ picture₀ now-kept₀ from₀ line memory picture now-kept from = (now-kept .held ≤ length line) × (length line ≡ length line₀) × (length memory ≡ length memory₀) × (length picture ≡ length picture₀)
+Inv-loop words chunk line₀ memory₀ picture₀ now-kept₀ from₀ line memory picture now-kept from = (now-kept .held ≤ length line) × (length line ≡ length line₀) × (length memory ≡ length memory₀) × (length picture ≡ length picture₀)
 
 abbrev μ-loop : tie.MeasureT-loop
-μ-loop chunk line₀ memory₀ picture₀ now-kept₀ from₀ line memory picture now-kept from = length chunk - from
+μ-loop words chunk line₀ memory₀ picture₀ now-kept₀ from₀ line memory picture now-kept from = length chunk - from
 
 loop-holds : tie.Need-loop-holds Inv-loop μ-loop
 loop-holds c = (c .before .before .before .before .pre, refl, refl, refl)
@@ -28,7 +28,7 @@ loop-less : tie.Need-loop-less Inv-loop μ-loop
 loop-less c = let h = gathers-next (c .before .before .before .before .before .before .before .before .before .before .gather .ensures) (c .before .before .before .before .before .before .before .before .before .before .before .before .loop-test .taken) in omega arith
 
 loop-again : tie.Need-loop-again Inv-loop μ-loop
-loop-again c = (c .before .before .before .before .settle .ensures, gathers-length (c .before .before .before .before .before .before .before .before .before .before .gather .ensures) ∙ c .before .before .before .before .before .before .before .before .before .before .before .before .before .loop .inv .1, c .before .before .before .before .settle .kept .1 .1 .1 .0 ∙ c .before .before .before .before .before .before .before .before .before .before .before .before .before .loop .inv .2, c .before .before .before .before .settle .kept .1 .1 .1 .1 .0 ∙ c .before .before .before .before .before .before .before .before .before .before .before .before .before .loop .inv .3)
+loop-again c = (c .before .before .before .before .settle .ensures, gathers-length (c .before .before .before .before .before .before .before .before .before .before .gather .ensures) ∙ c .before .before .before .before .before .before .before .before .before .before .before .before .before .loop .inv .1, c .before .before .before .before .settle .kept .1 .1 .1 .1 .0 ∙ c .before .before .before .before .before .before .before .before .before .before .before .before .before .loop .inv .2, c .before .before .before .before .settle .kept .1 .1 .1 .1 .1 .0 ∙ c .before .before .before .before .before .before .before .before .before .before .before .before .before .loop .inv .3)
 
 same-length : tie.Need-same-length Inv-loop μ-loop
 same-length c = c .before .loop .inv .1

@@ -11,10 +11,10 @@ use Rattle.console.proofs.session.run.Statement.{statement}
 use Rattle.console.proofs.session.run.Tie as tie
 
 abbrev Inv-loop : tie.InvT-loop
-Inv-loop memory₀ picture₀ line₀ k₀ turns₀ more₀ memory picture line k turns more = (k .held ≤ length line) × (length line ≡ 65) × (length memory ≡ length memory₀) × (length picture ≡ length picture₀)
+Inv-loop words memory₀ picture₀ line₀ k₀ turns₀ more₀ memory picture line k turns more = (k .held ≤ length line) × (length line ≡ 65) × (length memory ≡ length memory₀) × (length picture ≡ length picture₀)
 
 abbrev μ-loop : tie.MeasureT-loop
-μ-loop memory₀ picture₀ line₀ k₀ turns₀ more₀ memory picture line k turns more = turns
+μ-loop words memory₀ picture₀ line₀ k₀ turns₀ more₀ memory picture line k turns more = turns
 
 loop-holds : tie.Need-loop-holds Inv-loop μ-loop
 loop-holds c = (omega arith, refl, refl, refl)
@@ -32,7 +32,7 @@ loop-less : tie.Need-loop-less Inv-loop μ-loop
 loop-less c = let h = ltb-true 0 (c .before .before .before .before .before .before .before .before .before .before .before .before .loop .turns) (c .before .before .before .before .before .before .before .before .before .before .if1 .taken) in omega arith
 
 loop-again : tie.Need-loop-again Inv-loop μ-loop
-loop-again c = (let l = c .before .before .before .before .before .before .turn .kept .1 .0 in let h = c .before .before .before .before .before .before .turn .ensures in omega arith, c .before .before .before .before .before .before .turn .kept .1 .0 ∙ c .before .before .before .before .before .before .before .before .before .before .before .before .loop .inv .1, c .before .before .before .before .before .before .turn .kept .1 .1 .0 ∙ c .before .before .before .before .before .before .before .before .before .before .before .before .loop .inv .2, c .before .before .before .before .before .before .turn .kept .1 .1 .1 .0 ∙ c .before .before .before .before .before .before .before .before .before .before .before .before .loop .inv .3)
+loop-again c = (let l = c .before .before .before .before .before .before .turn .kept .1 .1 .0 in let h = c .before .before .before .before .before .before .turn .ensures in omega arith, c .before .before .before .before .before .before .turn .kept .1 .1 .0 ∙ c .before .before .before .before .before .before .before .before .before .before .before .before .loop .inv .1, c .before .before .before .before .before .before .turn .kept .1 .1 .1 .0 ∙ c .before .before .before .before .before .before .before .before .before .before .before .before .loop .inv .2, c .before .before .before .before .before .before .turn .kept .1 .1 .1 .1 .0 ∙ c .before .before .before .before .before .before .before .before .before .before .before .before .loop .inv .3)
 
 array-share-prefix-line : tie.Need-array-share-prefix-line Inv-loop μ-loop
 array-share-prefix-line c = c .before .before .loop .inv .0
@@ -44,10 +44,10 @@ answer-line-requires : tie.Need-answer-line-requires Inv-loop μ-loop
 answer-line-requires c κs = search needs
 
 same-length : tie.Need-same-length Inv-loop μ-loop
-same-length c = c .before .before .before .before .answer-line .kept .1 .1 .0 ∙ c .before .before .before .before .before .before .before .before .before .before .loop .inv .2
+same-length c = c .before .before .before .before .answer-line .kept .1 .1 .1 .0 ∙ c .before .before .before .before .before .before .before .before .before .before .loop .inv .2
 
 same-length-2 : tie.Need-same-length-2 Inv-loop μ-loop
-same-length-2 c = c .before .before .before .before .answer-line .kept .1 .1 .1 .0 ∙ c .before .before .before .before .before .before .before .before .before .before .loop .inv .3
+same-length-2 c = c .before .before .before .before .answer-line .kept .1 .1 .1 .1 .0 ∙ c .before .before .before .before .before .before .before .before .before .before .loop .inv .3
 
 returns : tie.Need-returns Inv-loop μ-loop
 returns c = search needs

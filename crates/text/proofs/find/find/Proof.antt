@@ -13,31 +13,24 @@ Inv-loop s b i₀ i = Sought b s i
 abbrev μ-loop : tie.MeasureT-loop
 μ-loop s b i₀ i = length s - i
 
--- src/find.rt:11:5
 loop-holds : tie.Need-loop-holds Inv-loop μ-loop
 loop-holds c = sought-first _ _
 
--- src/find.rt:12:12
 shared-slice-read-if1 : tie.Need-shared-slice-read-if1 Inv-loop μ-loop
 shared-slice-read-if1 c = omega arith
 
--- src/find.rt:13:13
 returns : tie.Need-returns Inv-loop μ-loop
 returns c = sought-here _ _ _ (c .before .before .loop-test .taken) (c .before .before .before .loop .inv) (c .if1 .taken)
 
--- src/find.rt:15:9
 add-i : tie.Need-add-i Inv-loop μ-loop
 add-i c = omega arith
 
--- src/find.rt:11:5
 loop-less : tie.Need-loop-less Inv-loop μ-loop
 loop-less c = omega arith
 
--- src/find.rt:11:5
 loop-again : tie.Need-loop-again Inv-loop μ-loop
 loop-again c = sought-on _ _ _ (c .before .before .loop-test .taken) (c .before .before .before .loop .inv) (c .if1 .left)
 
--- src/find.rt:7:1
 returns-2 : tie.Need-returns-2 Inv-loop μ-loop
 returns-2 c = sought-end _ _ _ (c .loop-test .left) (c .before .loop .inv)
 

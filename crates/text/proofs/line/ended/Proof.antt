@@ -5,12 +5,10 @@ use Rattle.text.specs.Line.{wordNext}
 use Rattle.text.proofs.line.ended.Statement.{statement}
 use Rattle.text.proofs.line.ended.Tie as tie
 
--- src/line.rt:83:9
 returns : tie.Need-returns
 unfolding wordNext
 returns c = simp (eq-eqb (c .before .args .write) 0 (c .if1 .taken))
 
--- src/line.rt:79:1
 returns-2 : tie.Need-returns-2
 unfolding wordNext
 returns-2 c = simp (ne-eqb (c .before .args .write) 0 (c .if1 .left))

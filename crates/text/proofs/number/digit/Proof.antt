@@ -5,39 +5,30 @@ use borrow.Author.Needs.{needs}
 use Rattle.text.proofs.number.digit.Statement.{statement}
 use Rattle.text.proofs.number.digit.Tie as tie
 
--- src/number.rt:12:9
 returns : tie.Need-returns
 returns c = digit-low _ (c .if1 .taken)
 
--- src/number.rt:15:9
 returns-2 : tie.Need-returns-2
 returns-2 c = digit-decimal _ (c .before .if1 .left) (c .if2 .taken)
 
--- src/number.rt:18:9
 returns-3 : tie.Need-returns-3
 returns-3 c = digit-between _ (c .before .if2 .left) (c .if3 .taken)
 
--- src/number.rt:21:16
 sub-result : tie.Need-sub-result
 sub-result c = search needs
 
--- src/number.rt:21:9
 returns-4 : tie.Need-returns-4
 returns-4 c = digit-upper _ (c .before .if3 .left) (c .if4 .taken)
 
--- src/number.rt:24:9
 returns-5 : tie.Need-returns-5
 returns-5 c = digit-middle _ (c .before .if4 .left) (c .if5 .taken)
 
--- src/number.rt:27:16
 sub-result-2 : tie.Need-sub-result-2
 sub-result-2 c = search needs
 
--- src/number.rt:27:9
 returns-6 : tie.Need-returns-6
 returns-6 c = digit-lower _ (c .before .if5 .left) (c .if6 .taken)
 
--- src/number.rt:7:1
 returns-7 : tie.Need-returns-7
 returns-7 c = digit-high _ (c .if6 .left)
 

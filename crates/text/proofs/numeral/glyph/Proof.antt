@@ -6,28 +6,22 @@ use borrow.Author.Needs.{needs}
 use Rattle.text.proofs.numeral.glyph.Statement.{statement}
 use Rattle.text.proofs.numeral.glyph.Tie as tie
 
--- src/numeral.rt:13:22
 cast-result : tie.Need-cast-result
 cast-result c = search needs
 
--- src/numeral.rt:13:17
 add-result : tie.Need-add-result
 add-result c = search needs
 
--- src/numeral.rt:13:44
 cast-result-2 : tie.Need-cast-result-2
 cast-result-2 c = search needs
 
--- src/numeral.rt:13:39
 add-result-2 : tie.Need-add-result-2
 add-result-2 c = search needs
 
--- src/numeral.rt:9:1
 returns : tie.Need-returns
 unfolding glyphOf
 returns c = simp (lt-ltb (c .before .args .d) 10 (c .if1 .taken))
 
--- src/numeral.rt:9:1
 returns-2 : tie.Need-returns-2
 unfolding glyphOf
 returns-2 c = simp (le-ltb (c .before .args .d) 10 (c .if1 .left))

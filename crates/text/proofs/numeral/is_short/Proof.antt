@@ -5,12 +5,10 @@ use Rattle.text.specs.Numeral.{isShort}
 use Rattle.text.proofs.numeral.is_short.Statement.{statement}
 use Rattle.text.proofs.numeral.is_short.Tie as tie
 
--- src/numeral.rt:16:1
 returns : tie.Need-returns
 unfolding isShort
 returns c = simp (lt-ltb (c .before .args .n) (c .before .args .base) (c .if1 .taken))
 
--- src/numeral.rt:16:1
 returns-2 : tie.Need-returns-2
 unfolding isShort
 returns-2 c = simp (le-ltb (c .before .args .n) (c .before .args .base) (c .if1 .left))

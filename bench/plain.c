@@ -1,0 +1,439 @@
+/* A plain model of the same rules, written for speed: the state by reference, tables for every lookup, and a redraw of only the dots that can change.
+ * Sections are those of the manual (000); "01" is the scope paper, D-n a line of docs/DECISIONS.md. */
+#include "plain.h"
+#include <string.h>
+
+#define ALL 0xFFFFFFFFu
+#define UNITS 0xFFFFFu /* ScreenBase and ScreenStride: bits 0 to 19 */
+
+/* ---- the tables (01, Region 0 and Configuration header; 000, 3.2 to 3.6 and 2.14) ---- */
+
+/* what a write may change, by enum pm_row */
+static const uint32_t row_writable[PM_ROWS] = {
+    0x3FB, 0x3FB, ALL, ALL, 0xFFFFFF, 0x0FFF0FFF, ALL, 0x3FFFFFFF, 0, 0, 0x10, 0x3FF, 0xFFFFE7FF, ALL, 0, 0, UNITS, UNITS, 0x7FF, 0x7FF, 0x7FF, 0x7FF,
+    0x7FF, 0x7FF, 0x7FF, 0x7FF, 0x7FF, 0x11E7F, 0x7FF, 0xE30C, 0, 0x1F1F, UNITS, 0xFF, 0xFF, 0xFF, 0xFF, 0xFF
+};
+static const uint32_t row_reset[PM_ROWS] = {
+    [PM_ROW_BOOT_ADDRESS] = 0x31, [PM_ROW_MEM_CONFIG] = 0x259FFFFF, [PM_ROW_PIXEL_MASK] = 0xFF
+};
+static const uint32_t row_known[PM_ROWS] = {
+    ALL, ALL, ALL, ALL, ALL, ALL, 0, ALL, 0xFFFFFFFE, ALL, ALL, ALL, ALL, 0, 0, 0, ~UNITS, ~UNITS, ~0x7FFu, ~0x7FFu, ~0x7FFu, ~0x7FFu, ~0x7FFu, ~0x7FFu,
+    ~0x7FFu, ~0x7FFu, ~0x7FFu, 0xFFFE0000, ~0x7FFu, 0xFFFFE30C, ~0x7FFu, 0xFFFEE0E0, ~UNITS, 0xFF, 0, 0, 0, 0
+};
+
+/* one more than the row, by an eighth of the offset: every offset of region 0 is a multiple of eight */
+#define ROW_OFFSETS (0x4080 / 8)
+static const uint8_t row_at[ROW_OFFSETS] = {
+    [0x50 / 8] = 1, [0x58 / 8] = 2, [0xA0 / 8] = 3, [0xB8 / 8] = 4, [0xC0 / 8] = 5, [0xC8 / 8] = 6, [0xD0 / 8] = 7, [0xD8 / 8] = 8, [0xE8 / 8] = 9,
+    [0x1000 / 8] = 10, [0x1040 / 8] = 11, [0x1080 / 8] = 12, [0x10C0 / 8] = 13, [0x1100 / 8] = 14, [0x1140 / 8] = 15, [0x1180 / 8] = 16,
+    [0x3000 / 8] = 17, [0x3008 / 8] = 18, [0x3010 / 8] = 19, [0x3018 / 8] = 20, [0x3020 / 8] = 21, [0x3028 / 8] = 22, [0x3030 / 8] = 23,
+    [0x3038 / 8] = 24, [0x3040 / 8] = 25, [0x3048 / 8] = 26, [0x3050 / 8] = 27, [0x3058 / 8] = 28, [0x3060 / 8] = 29, [0x3068 / 8] = 30,
+    [0x3070 / 8] = 31, [0x3078 / 8] = 32, [0x3080 / 8] = 33, [0x4010 / 8] = 34, [0x4060 / 8] = 35, [0x4068 / 8] = 36, [0x4070 / 8] = 37,
+    [0x4078 / 8] = 38
+};
+
+/* the header, by enum pm_header_row. Of 2Ch nothing is writable here: it has a rule of its own */
+static const uint32_t header_writable[PM_HEADER_ROWS] = {
+    0, 0x6, 0, 0xFF00, 0xFFFE0000, 0xFF800000, 0xFF800000, 0, 0, 0xFFFF0001, 0, 0xFF, 0, 0, 0xFF000303, 0xE07FFFFF, ALL
+};
+#define STATUS_BITS 0x30000000u /* of 04h: cleared by writing one */
+static const uint32_t header_reset[PM_HEADER_ROWS] = {
+    [PM_HEADER_VENDOR_DEVICE] = 0x00073D3D, [PM_HEADER_COMMAND_STATUS] = 0x02800000, [PM_HEADER_REVISION_CLASS] = 0x03800001,
+    [PM_HEADER_SUBSYSTEM] = 0x00073D3D, [PM_HEADER_INTERRUPT] = 0x100
+};
+static const uint32_t header_known[PM_HEADER_ROWS] = {
+    ALL, ALL, ALL, ALL, ALL, ALL, ALL, ALL, ALL, ALL, 0xFFFFFFBF, 0x3F3FFFFF, 0xFFEFFFFD, 0xE0FFFDFE, ALL, ALL, ALL
+};
+static const uint8_t header_at[64] = {
+    [0x00 / 4] = 1, [0x04 / 4] = 2, [0x08 / 4] = 3, [0x0C / 4] = 4, [0x10 / 4] = 5, [0x14 / 4] = 6, [0x18 / 4] = 7, [0x28 / 4] = 8, [0x2C / 4] = 9,
+    [0x30 / 4] = 10, [0x34 / 4] = 11, [0x3C / 4] = 12, [0x40 / 4] = 13, [0x44 / 4] = 14, [0x48 / 4] = 15, [0xF8 / 4] = 16, [0xFC / 4] = 17
+};
+
+/* the indirect registers by index (000, table 5.2 and 3.6) */
+#define COLOR_MODE 0x18
+#define MISC_CONTROL 0x1E
+static const uint8_t index_writable[PM_INDICES] = {
+    [0x06] = 0x7F, [0x18] = 0xBF, [0x19] = 0x07, [0x1C] = 0xFF, [0x1E] = 0x3F, [0x20] = 0xFF, [0x21] = 0xFF, [0x22] = 0x0B, [0x23] = 0xFF, [0x24] = 0xFF,
+    [0x25] = 0x0B, [0x26] = 0xFF, [0x27] = 0xFF, [0x28] = 0x0B, [0x30] = 0xFF, [0x31] = 0xFF, [0x32] = 0x03, [0x40] = 0x1F, [0x41] = 0xFF, [0x42] = 0xFF,
+    [0x43] = 0xFF, [0x44] = 0xFF
+};
+static const uint8_t index_reset[PM_INDICES] = {
+    [0x20] = 0x1C, [0x21] = 0x02, [0x22] = 0x0B, [0x23] = 0x10, [0x24] = 0x02, [0x25] = 0x0B, [0x30] = 0x1C, [0x31] = 0x02, [0x32] = 0x02
+};
+enum { ABSENT = 0, READ_WRITE, WRITE_ONLY, STATUS };
+static const uint8_t index_kind[PM_INDICES] = {
+    [0x06] = READ_WRITE, [0x18] = READ_WRITE, [0x19] = READ_WRITE, [0x1C] = READ_WRITE, [0x1E] = READ_WRITE, [0x20] = WRITE_ONLY, [0x21] = WRITE_ONLY,
+    [0x22] = WRITE_ONLY, [0x23] = WRITE_ONLY, [0x24] = WRITE_ONLY, [0x25] = WRITE_ONLY, [0x26] = WRITE_ONLY, [0x27] = WRITE_ONLY, [0x28] = WRITE_ONLY,
+    [0x29] = STATUS, [0x30] = WRITE_ONLY, [0x31] = WRITE_ONLY, [0x32] = WRITE_ONLY, [0x33] = STATUS, [0x40] = READ_WRITE, [0x41] = READ_WRITE,
+    [0x42] = READ_WRITE, [0x43] = READ_WRITE, [0x44] = READ_WRITE
+};
+
+static const uint32_t lanes_of[16] = {
+    0x00000000, 0x000000FF, 0x0000FF00, 0x0000FFFF, 0x00FF0000, 0x00FF00FF, 0x00FFFF00, 0x00FFFFFF, 0xFF000000, 0xFF0000FF, 0xFF00FF00, 0xFF00FFFF,
+    0xFFFF0000, 0xFFFF00FF, 0xFFFFFF00, 0xFFFFFFFF
+};
+
+/* ---- refusal 1: what a state is ---- */
+
+static int panel_ok(uint32_t width, uint32_t height) { return width - 1 < 1024 && height - 1 < 1024; }
+
+static int memory_ok(size_t fitted) { return fitted % 8 == 0 && fitted >= 8 && fitted <= 8388608; }
+
+static uint32_t half_bits(uint32_t halves) { return (halves & 1 ? 0xFFFFu : 0) | (halves & 2 ? 0xFFFF0000u : 0); }
+
+/* The faults are gathered without a branch, so that the loops run over many elements at a time. */
+static int is_state(const struct pm_state *s) {
+    if (!panel_ok(s->width, s->height) || !memory_ok(s->fitted) || s->once > 3) return 0;
+    if (s->dac.component > 2 || (s->dac.address & ~s->dac.known) != 0) return 0;
+    uint32_t bad = 0;
+    for (unsigned i = 0; i < PM_ROWS; i++) {
+        uint32_t v = s->values[i], k = s->knowns[i];
+        bad |= (((v ^ row_reset[i]) | (k ^ row_known[i])) & ~row_writable[i]) | ((v | row_known[i]) & ~k);
+    }
+    for (unsigned i = 0; i < PM_HEADER_ROWS; i++) {
+        uint32_t may = header_writable[i];
+        if (i == PM_HEADER_COMMAND_STATUS) may |= STATUS_BITS;
+        if (i == PM_HEADER_SUBSYSTEM) may = half_bits(s->once);
+        bad |= (s->header[i] ^ header_reset[i]) & ~may;
+    }
+    uint8_t bad_bytes = 0;
+    for (unsigned i = 0; i < PM_INDICES; i++) bad_bytes |= (uint8_t)((s->indirect[i] ^ index_reset[i]) & ~index_writable[i]);
+    const struct pm_palette *p = &s->palette;
+    for (unsigned i = 0; i < PM_ENTRIES; i++) {
+        uint8_t flag = p->stored[i];
+        bad_bytes |= (uint8_t)((flag >> 1) | ((p->red[i] | p->green[i] | p->blue[i]) & (uint8_t)(flag - 1)));
+    }
+    return (bad | bad_bytes) == 0;
+}
+
+/* ---- the picture (01, The picture) ---- */
+
+/* what of a state places the dots: the fixed word of rules 1 and 2, or 0; bytes, not units */
+struct view {
+    uint32_t fixed;
+    uint64_t base, stride;
+    uint8_t mask;
+};
+
+static struct view view_of(const struct pm_state *s) {
+    struct view v;
+    v.base = (uint64_t)(s->values[PM_ROW_SCREEN_BASE] & UNITS) * 8;
+    v.stride = (uint64_t)(s->values[PM_ROW_SCREEN_STRIDE] & UNITS) * 8;
+    v.mask = (uint8_t)s->values[PM_ROW_PIXEL_MASK];
+    v.fixed = 0;
+    if ((s->indirect[COLOR_MODE] & 0x1F) != 0x10)
+        v.fixed = PM_DOT_OFF;
+    else if ((s->knowns[PM_ROW_SCREEN_BASE] & s->knowns[PM_ROW_SCREEN_STRIDE] & UNITS) != UNITS || (s->knowns[PM_ROW_PIXEL_MASK] & 0xFF) != 0xFF)
+        v.fixed = PM_DOT_UNPLACED;
+    return v;
+}
+
+static uint32_t entry_word(const struct pm_palette *p, unsigned e) {
+    if (!p->stored[e]) return PM_DOT_NEVER;
+    return PM_DOT_COLOUR | (uint32_t)p->red[e] << 16 | (uint32_t)p->green[e] << 8 | p->blue[e];
+}
+
+static void table_of(uint32_t *table, const struct pm_palette *p, uint8_t mask) {
+    for (unsigned b = 0; b < 256; b++) table[b] = entry_word(p, b & mask);
+}
+
+/* how many of the dots of a row, whose bytes start at a place, lie in memory */
+static size_t in_memory(uint64_t start, size_t width, size_t fitted) {
+    if (start >= fitted) return 0;
+    return fitted - start < width ? (size_t)(fitted - start) : width;
+}
+
+/* a dot's word goes from a to b; 1 where what stands there changes */
+static inline uint32_t put(uint32_t *dot, uint32_t a, uint32_t b) {
+    uint32_t p = *dot, q = a == b ? p : b;
+    *dot = q;
+    return p != q;
+}
+
+/* a row that shows n bytes by a table and then one word */
+struct line {
+    const uint8_t *bytes;
+    size_t n;
+    const uint32_t *table;
+    uint32_t past;
+};
+
+static struct line line_of(const struct view *v, const uint32_t *table, uint64_t y, size_t width, const uint8_t *memory, size_t fitted) {
+    struct line l = { memory, 0, table, v->fixed };
+    if (v->fixed) return l;
+    uint64_t start = v->base + v->stride * y;
+    l.n = in_memory(start, width, fitted);
+    if (l.n) l.bytes = memory + start;
+    l.past = PM_DOT_BEYOND;
+    return l;
+}
+
+static uint32_t draw_line(uint32_t *dots, size_t width, struct line a, struct line b) {
+    uint32_t changed = 0;
+    size_t x = 0, both = a.n < b.n ? a.n : b.n;
+    for (; x < both; x++) changed += put(&dots[x], a.table[a.bytes[x]], b.table[b.bytes[x]]);
+    for (; x < a.n; x++) changed += put(&dots[x], a.table[a.bytes[x]], b.past);
+    for (; x < b.n; x++) changed += put(&dots[x], a.past, b.table[b.bytes[x]]);
+    if (a.past != b.past)
+        for (; x < width; x++) changed += put(&dots[x], a.past, b.past);
+    return changed;
+}
+
+/* base, stride, mask or colour mode went from one view to another */
+static uint32_t redraw(const struct pm_state *s, struct view from, struct view to, const uint8_t *memory, uint32_t *picture) {
+    if (from.fixed ? from.fixed == to.fixed : !to.fixed && from.base == to.base && from.stride == to.stride && from.mask == to.mask) return 0;
+    uint32_t t0[256], t1[256];
+    if (!from.fixed) table_of(t0, &s->palette, from.mask);
+    if (!to.fixed) table_of(t1, &s->palette, to.mask);
+    uint32_t changed = 0;
+    for (uint64_t y = 0; y < s->height; y++)
+        changed += draw_line(picture + y * s->width, s->width, line_of(&from, t0, y, s->width, memory, s->fitted),
+            line_of(&to, t1, y, s->width, memory, s->fitted));
+    return changed;
+}
+
+/* entry e went to the word w: the dots whose byte, masked, is e */
+static uint32_t redraw_entry(const struct pm_state *s, unsigned e, uint32_t w, const uint8_t *memory, uint32_t *picture) {
+    struct view v = view_of(s);
+    if (v.fixed || (e & v.mask) != e) return 0;
+    uint32_t changed = 0;
+    for (uint64_t y = 0; y < s->height; y++) {
+        uint64_t start = v.base + v.stride * y;
+        size_t n = in_memory(start, s->width, s->fitted);
+        uint32_t *dots = picture + y * s->width;
+        for (size_t x = 0; x < n; x++) {
+            uint32_t p = dots[x], q = (memory[start + x] & v.mask) == e ? w : p;
+            dots[x] = q;
+            changed += p != q;
+        }
+    }
+    return changed;
+}
+
+/* the dots that show memory byte at, as its word goes from a to b */
+static uint32_t redraw_byte(const struct pm_state *s, const struct view *v, uint64_t at, uint32_t a, uint32_t b, uint32_t *picture) {
+    if (a == b || at < v->base) return 0;
+    uint64_t d = at - v->base, first = 0, end = s->height, stride = v->stride, width = s->width;
+    if (stride == 0) {
+        if (d >= width) return 0;
+    } else {
+        if (d >= width) first = (d - width) / stride + 1;
+        if (d / stride < end) end = d / stride + 1;
+    }
+    uint32_t changed = 0;
+    for (uint64_t y = first; y < end; y++) changed += put(&picture[y * width + (d - y * stride)], a, b);
+    return changed;
+}
+
+/* ---- apertures ---- */
+
+/* the lane of memory byte o + i, by swap code */
+static const uint8_t lane_of[3][4] = { { 0, 1, 2, 3 }, { 3, 2, 1, 0 }, { 2, 3, 0, 1 } };
+
+static uint32_t write_memory(const struct pm_state *s, const struct pm_access *a, unsigned swap, uint8_t *memory, uint32_t *picture) {
+    struct view v = view_of(s);
+    uint32_t changed = 0;
+    /* a word never crosses the end of a row where rows do not overlap: offsets are multiples of four, rows of eight. One division serves it */
+    int apart = v.stride >= s->width;
+    uint64_t x = 0, y = 0;
+    if (!v.fixed && apart && a->offset >= v.base) {
+        uint64_t d = a->offset - v.base;
+        y = d / v.stride;
+        x = d % v.stride;
+    }
+    for (unsigned i = 0; i < 4; i++) {
+        unsigned lane = lane_of[swap][i];
+        if (!(a->enables >> lane & 1)) continue;
+        uint64_t at = (uint64_t)a->offset + i;
+        uint8_t old = memory[at], new = (uint8_t)(a->word >> 8 * lane);
+        memory[at] = new;
+        if (v.fixed || at < v.base) continue;
+        uint32_t before = entry_word(&s->palette, old & v.mask), after = entry_word(&s->palette, new & v.mask);
+        if (!apart)
+            changed += redraw_byte(s, &v, at, before, after, picture);
+        else if (x + i < s->width && y < s->height)
+            changed += put(&picture[y * s->width + x + i], before, after);
+    }
+    return changed;
+}
+
+static uint32_t read_memory(uint32_t offset, unsigned swap, const uint8_t *memory) {
+    uint32_t w = 0;
+    for (unsigned i = 0; i < 4; i++) w |= (uint32_t)memory[offset + i] << 8 * lane_of[swap][i];
+    return w;
+}
+
+/* ---- an access ---- */
+
+static struct plain_answer answer(uint32_t status, uint32_t word, uint32_t known, uint32_t changed) {
+    struct plain_answer r = { status, word, known, changed };
+    return r;
+}
+
+static struct plain_answer refused(uint32_t status) { return answer(status, 0, 0, 0); }
+
+static struct plain_answer seen(uint32_t value, uint32_t known, uint32_t enables) {
+    known &= lanes_of[enables];
+    return answer(PM_DONE, value & known, known, 0);
+}
+
+static struct plain_answer written(uint32_t changed) { return answer(PM_DONE, 0, 0, changed); }
+
+static struct plain_answer window(struct pm_state *s, const struct pm_access *a, uint32_t control, uint8_t *memory, uint32_t *picture) {
+    if ((uint64_t)a->offset + 4 > s->fitted) return refused(PM_NOTHING_HERE);
+    /* 3.2.11: bits 0 and 1 the swap; 3 packed 16-bit, 8 SVGA, 9 ROM */
+    unsigned swap = control & 3;
+    if (swap == 3 || (control & 0x308)) return refused(PM_MODE_UNSERVED);
+    if (a->write) return written(write_memory(s, a, swap, memory, picture));
+    return seen(read_memory(a->offset, swap, memory), ALL, a->enables);
+}
+
+static struct plain_answer header(struct pm_state *s, const struct pm_access *a) {
+    if (a->offset > 0xFC) return refused(PM_NOTHING_HERE);
+    unsigned row = header_at[a->offset / 4];
+    if (row == 0) return a->write ? written(0) : seen(0, ALL, a->enables);
+    row--;
+    if (!a->write) return seen(s->header[row], header_known[row], a->enables);
+    uint32_t bits = header_writable[row], word = a->word;
+    if (row == PM_HEADER_SUBSYSTEM) { /* D-17: a half is fixed by the first write with both of its lanes */
+        uint32_t halves = ((a->enables & 3) == 3 ? 1u : 0u) | ((a->enables & 12) == 12 ? 2u : 0u);
+        bits = half_bits(halves & ~s->once);
+        s->once |= halves;
+    } else {
+        if (row == PM_HEADER_COMMAND_STATUS) {
+            bits |= STATUS_BITS & word;
+            word &= ~STATUS_BITS;
+        }
+        bits &= lanes_of[a->enables];
+    }
+    s->header[row] = (s->header[row] & ~bits) | (word & bits);
+    return written(0);
+}
+
+/* every palette data access advances the component, and after 2 the address */
+static void advance(struct pm_dac *d, uint8_t staged, uint8_t red, uint8_t green) {
+    if (d->component < 2) {
+        d->component++;
+    } else {
+        d->component = 0;
+        d->address++;
+    }
+    d->staged = staged;
+    d->red = red;
+    d->green = green;
+}
+
+static struct plain_answer palette_data(struct pm_state *s, const struct pm_access *a, const uint8_t *memory, uint32_t *picture) {
+    struct pm_dac *d = &s->dac;
+    struct pm_palette *p = &s->palette;
+    if (d->known != 0xFF) return refused(PM_NOTHING_HERE);
+    int lane = a->enables & 1, wide = s->indirect[MISC_CONTROL] & 2;
+    unsigned e = d->address;
+    if (!a->write) {
+        if (!lane) return seen(0, 0, a->enables);
+        uint8_t v = d->component == 0 ? p->red[e] : d->component == 1 ? p->green[e] : p->blue[e];
+        struct plain_answer r = seen(wide ? v : v / 4u, p->stored[e] ? 0xFF : 0, a->enables);
+        advance(d, 0, 0, 0);
+        return r;
+    }
+    if (!lane) return written(0);
+    uint8_t v = (uint8_t)(wide ? a->word : a->word % 64 * 4);
+    if (d->component == 0) {
+        advance(d, 1, v, 0);
+    } else if (d->component == 1 && d->staged == 1) {
+        advance(d, 2, d->red, v);
+    } else if (d->component == 2 && d->staged == 2) {
+        uint32_t before = entry_word(p, e);
+        p->red[e] = d->red;
+        p->green[e] = d->green;
+        p->blue[e] = v;
+        p->stored[e] = 1;
+        advance(d, 0, 0, 0);
+        uint32_t after = entry_word(p, e);
+        if (before != after) return written(redraw_entry(s, e, after, memory, picture));
+    } else {
+        advance(d, 0, 0, 0);
+    }
+    return written(0);
+}
+
+static struct plain_answer indexed_data(struct pm_state *s, const struct pm_access *a, const uint8_t *memory, uint32_t *picture) {
+    if (s->dac.known != 0xFF) return refused(PM_NOTHING_HERE);
+    unsigned i = s->dac.address, kind = index_kind[i];
+    if (kind == ABSENT) return refused(PM_NOTHING_HERE);
+    if (!a->write) {
+        if (kind == WRITE_ONLY) return refused(PM_NO_DIRECTION);
+        return seen(s->indirect[i], kind == STATUS ? 0 : 0xFF, a->enables);
+    }
+    uint8_t bits = (uint8_t)(index_writable[i] & lanes_of[a->enables]);
+    uint8_t next = (uint8_t)((s->indirect[i] & ~bits) | (a->word & bits));
+    if (i != COLOR_MODE) {
+        s->indirect[i] = next;
+        return written(0);
+    }
+    struct view from = view_of(s);
+    s->indirect[i] = next;
+    return written(redraw(s, from, view_of(s), memory, picture));
+}
+
+static struct plain_answer region(struct pm_state *s, const struct pm_access *a, const uint8_t *memory, uint32_t *picture) {
+    switch (a->offset) {
+    case 0x4000: /* RDPaletteWriteAddress and RDPaletteReadAddress: one address */
+    case 0x4018:
+        if (!a->write) return seen(s->dac.address, s->dac.known, a->enables);
+        if (a->enables & 1) s->dac = (struct pm_dac){ .address = (uint8_t)a->word, .known = 0xFF };
+        return written(0);
+    case 0x4008: return palette_data(s, a, memory, picture);
+    case 0x4050: return indexed_data(s, a, memory, picture);
+    }
+    unsigned row = a->offset % 8 == 0 && a->offset / 8 < ROW_OFFSETS ? row_at[a->offset / 8] : 0;
+    if (row == 0) return refused(PM_NOTHING_HERE);
+    row--;
+    if (!a->write) return seen(s->values[row], s->knowns[row], a->enables);
+    if (row == PM_ROW_FRAMEBUFFER_WRITE_MASK || row == PM_ROW_COUNT) return refused(PM_NO_DIRECTION);
+    uint32_t bits = row_writable[row] & lanes_of[a->enables];
+    int shows = row == PM_ROW_SCREEN_BASE || row == PM_ROW_SCREEN_STRIDE || row == PM_ROW_PIXEL_MASK;
+    struct view from = { 0 };
+    if (shows) from = view_of(s);
+    s->values[row] = (s->values[row] & ~bits) | (a->word & bits);
+    s->knowns[row] |= bits;
+    return written(shows ? redraw(s, from, view_of(s), memory, picture) : 0);
+}
+
+struct plain_answer plain_access(struct pm_state *s, const struct pm_access *a, uint8_t *memory, size_t memory_length, uint32_t *picture,
+    size_t picture_length) {
+    if (!is_state(s)) return refused(PM_NO_STATE);
+    if (memory_length != s->fitted || picture_length != (size_t)s->width * s->height) return refused(PM_WRONG_LENGTH);
+    if (a->target > 3 || a->enables > 15) return refused(PM_BAD_FORM);
+    if (a->offset % 4) return refused(PM_UNALIGNED);
+    switch (a->target) {
+    case PM_REGION_0: return region(s, a, memory, picture);
+    case PM_APERTURE_ONE: return window(s, a, s->values[PM_ROW_APERTURE_ONE], memory, picture);
+    case PM_APERTURE_TWO: return window(s, a, s->values[PM_ROW_APERTURE_TWO], memory, picture);
+    default: return header(s, a);
+    }
+}
+
+/* ---- an opening ---- */
+
+static void reset(struct pm_state *s, uint32_t width, uint32_t height, uint32_t fitted) {
+    memset(s, 0, sizeof *s);
+    s->width = width;
+    s->height = height;
+    s->fitted = fitted;
+    memcpy(s->values, row_reset, sizeof s->values);
+    memcpy(s->knowns, row_known, sizeof s->knowns);
+    memcpy(s->header, header_reset, sizeof s->header);
+    memcpy(s->indirect, index_reset, sizeof s->indirect);
+}
+
+uint32_t plain_open(struct pm_state *s, uint32_t width, uint32_t height, uint8_t *memory, size_t memory_length, uint32_t *picture, size_t picture_length) {
+    (void)memory;
+    reset(s, 0, 0, 0);
+    if (!panel_ok(width, height)) return PM_BAD_PANEL;
+    if (!memory_ok(memory_length)) return PM_BAD_MEMORY;
+    if (picture_length != (size_t)width * height) return PM_WRONG_LENGTH;
+    for (size_t i = 0; i < picture_length; i++) picture[i] = PM_DOT_OFF;
+    reset(s, width, height, (uint32_t)memory_length);
+    return PM_DONE;
+}

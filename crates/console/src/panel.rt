@@ -1,0 +1,202 @@
+// The programs over a panel of any size: its lines in the trace's form or in words, and its picture as a file.
+use crate::ppm::write_picture;
+use crate::say::say;
+use crate::say::say_number;
+use crate::session::run;
+use model::open::open;
+use text::Field;
+use text::Size;
+use text::panel::decimal;
+use text::panel::size;
+ghost use Prim.Native.Nat.{_≤_};
+
+fn complain(text: &[u8]) {
+    io::write_all(2, text);
+}
+
+fn size_argument() -> Size {
+    let mut room = io::buffer();
+    let n = os::arg(1, &mut room);
+    size(&room[..n])
+}
+
+fn bytes_argument() -> Field {
+    let mut room = io::buffer();
+    let n = os::arg(2, &mut room);
+    decimal(&room[..n])
+}
+
+// No descriptor: nobody asked for a picture.
+const NO_FILE: i32 = -2;
+
+// A dash stands for standard output, where the picture follows the lines.
+fn is_dash(path: &[u8]) -> bool {
+    if path.len() != 1 {
+        return false;
+    }
+    path[0] == b'-'
+}
+
+// The picture's file, made before anything is run: NO_FILE where none is asked for, -1 (and a message) where it can't be written.
+fn picture_file(i: usize) -> i32 {
+    if os::arg_count() <= i {
+        return NO_FILE;
+    }
+    let mut room = io::buffer();
+    let n = os::arg(i, &mut room);
+    if is_dash(&room[..n]) {
+        return 1;
+    }
+    let fd = os::open_overwrite(&room[..n]);
+    if fd < 0 {
+        os::fail(&room[..n]);
+        complain(b"the picture can't be written there; expected is the name of a file to write\n");
+        return -1;
+    }
+    fd
+}
+
+fn header(width: u32, height: u32, bytes: u32) {
+    say(b"PERMEDIA2 ");
+    say_number(width);
+    say(b"x");
+    say_number(height);
+    say(b" ");
+    say_number(bytes);
+    say(b"\n");
+}
+
+fn finish(fd: i32, width: u32, height: u32, picture: &[u32]) {
+    if fd == NO_FILE {
+        return;
+    }
+    if !write_picture(fd, width, height, picture) {
+        complain(b"the picture could not be written whole\n");
+    }
+    if 2 < fd {
+        libc::close(fd);
+    }
+}
+
+fn refused(status: u32) {
+    if status == 8 {
+        complain(b"the opening is refused as 8: expected are panels of 1x1 to 1024x1024\n");
+    } else {
+        complain(
+            b"the opening is refused as 9: expected are 8 to 2097152 bytes, a multiple of 8\n",
+        );
+    }
+}
+
+// Opens the panel, runs standard input, and writes the picture.
+fn on_panel(width: u32, height: u32, words: bool, fd: i32, memory: &mut [u8], picture: &mut [u32]) {
+    let o = open(width, height, memory, picture);
+    if o.status != 0 {
+        refused(o.status);
+        return;
+    }
+    header(width, height, o.state.fitted);
+    run(o.state, words, memory, picture);
+    finish(fd, width, height, picture);
+}
+
+// The parts of the two rooms that the panel asks for.
+fn cut(
+    width: u32,
+    height: u32,
+    bytes: u32,
+    words: bool,
+    fd: i32,
+    memory: &mut [u8],
+    picture: &mut [u32],
+)
+    requires { ⌜ width ≤ 1024 ⌝ }
+    requires { ⌜ height ≤ 1024 ⌝ }
+{
+    let fitted = bytes as usize;
+    let dots = (width * height) as usize;
+    if memory.len() < fitted {
+        complain(
+            b"so much memory does not fit on this program's stack: expected are at most 2097152 bytes\n",
+        );
+        return;
+    }
+    if picture.len() < dots {
+        complain(b"the panel is too large\n");
+        return;
+    }
+    on_panel(
+        width,
+        height,
+        words,
+        fd,
+        &mut memory[..fitted],
+        &mut picture[..dots],
+    );
+}
+
+// Memory and picture are on the stack, which commonly holds 8 MiB: 2 MiB of memory and the largest picture fit.
+fn show(width: u32, height: u32, bytes: u32, words: bool, fd: i32)
+    requires { ⌜ width ≤ 1024 ⌝ }
+    requires { ⌜ height ≤ 1024 ⌝ }
+{
+    let mut memory = [0u8; 2097152];
+    let mut picture = [0u32; 1048576];
+    cut(width, height, bytes, words, fd, &mut memory, &mut picture);
+}
+
+fn start(width: u32, height: u32, bytes: u32, words: bool) {
+    if 1024 < width {
+        complain(b"the panel is too wide: expected are 1 to 1024 dots\n");
+        return;
+    }
+    if 1024 < height {
+        complain(b"the panel is too high: expected are 1 to 1024 dots\n");
+        return;
+    }
+    let fd = picture_file(3);
+    if fd == -1 {
+        return;
+    }
+    show(width, height, bytes, words, fd);
+}
+
+fn from_arguments(words: bool, usage: &[u8]) {
+    let s = size_argument();
+    if !s.good {
+        complain(
+            b"the panel's size is of another form: expected is WIDTHxHEIGHT in decimal digits, as 640x480\n",
+        );
+        complain(usage);
+        return;
+    }
+    let b = bytes_argument();
+    if !b.good {
+        complain(
+            b"the memory is of another form: expected is a number of bytes in decimal digits, as 65536\n",
+        );
+        complain(usage);
+        return;
+    }
+    start(s.width, s.height, b.value, words);
+}
+
+// panel WIDTHxHEIGHT BYTES [PICTURE.ppm]: the trace's lines on such a panel.
+pub fn panel() {
+    from_arguments(
+        false,
+        b"usage: panel WIDTHxHEIGHT BYTES [PICTURE.ppm] < TRACE\n",
+    );
+}
+
+// explain [WIDTHxHEIGHT BYTES [PICTURE.ppm]]: the same in words; without arguments on the trace program's panel.
+pub fn explain() {
+    if os::arg_count() <= 1 {
+        start(4, 1, 16, true);
+        return;
+    }
+    from_arguments(
+        true,
+        b"usage: explain [WIDTHxHEIGHT BYTES [PICTURE.ppm]] < TRACE\n",
+    );
+}

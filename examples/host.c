@@ -1,0 +1,139 @@
+/* A small host of the model: opens a panel, loads a palette, draws bars through an aperture, and looks at what a program should never take for zero. */
+#include "reefstencil.h"
+#include <stdio.h>
+
+/* nine bars of four dots; rows of five units of eight bytes, of which the last four bytes are not shown */
+#define BARS 9u
+#define WIDTH (4 * BARS)
+#define HEIGHT 5u
+#define STRIDE 5u
+
+static uint8_t memory[8 * STRIDE * HEIGHT];
+static uint32_t picture[WIDTH * HEIGHT];
+static struct pm_state state;
+
+static const char *const meanings[] = {
+    "done", "not a state", "a lent buffer has the wrong length", "no such target, or enables above 15", "the offset is no multiple of four",
+    "nothing is there", "the register has no such direction", "the aperture's mode is not served", "the panel is out of range", "the memory is out of range"
+};
+
+/* The one way into the chip: hand the state in, take the new one from the answer. */
+static struct pm_answer run(struct pm_access a) {
+    struct pm_answer r = pm_access(state, a, memory, sizeof memory, picture, sizeof picture / sizeof *picture);
+    state = r.state;
+    return r;
+}
+
+static struct pm_answer write_word(uint32_t target, uint32_t offset, uint32_t word) {
+    return run((struct pm_access){ .target = target, .offset = offset, .write = 1, .enables = 15, .word = word });
+}
+
+static struct pm_answer read_word(uint32_t target, uint32_t offset) {
+    return run((struct pm_access){ .target = target, .offset = offset, .write = 0, .enables = 15 });
+}
+
+/* An indirect register of the RAMDAC: its index goes to RDPaletteWriteAddress (4000h), its byte to RDIndexedData (4050h). */
+static void write_index(uint32_t index, uint32_t byte) {
+    write_word(PM_REGION_0, 0x4000, index);
+    write_word(PM_REGION_0, 0x4050, byte);
+}
+
+/* RDPaletteData (4008h) takes red, green, blue. Nothing shows before the third. */
+static uint32_t write_entry(uint32_t entry, uint32_t rgb) {
+    write_word(PM_REGION_0, 0x4000, entry);
+    write_word(PM_REGION_0, 0x4008, rgb >> 16);
+    write_word(PM_REGION_0, 0x4008, rgb >> 8 & 255);
+    return write_word(PM_REGION_0, 0x4008, rgb & 255).changed;
+}
+
+/* a byte bit by bit: a bit that is not known is a question mark */
+static void print_bits(uint32_t word, uint32_t known) {
+    for (int i = 7; i >= 0; i--) putchar(known >> i & 1 ? (word >> i & 1 ? '1' : '0') : '?');
+}
+
+static void print_entry(const char *name, uint32_t entry) {
+    static const char *const components[] = { "red", "green", "blue" };
+    printf("entry %u, %s:", (unsigned)entry, name);
+    write_word(PM_REGION_0, 0x4018, entry); /* RDPaletteReadAddress */
+    for (int i = 0; i < 3; i++) {
+        struct pm_answer r = read_word(PM_REGION_0, 0x4008);
+        printf(" %s ", components[i]);
+        print_bits(r.word, r.known);
+    }
+    putchar('\n');
+}
+
+static void print_read(const char *name, uint32_t target, uint32_t offset) {
+    struct pm_answer r = read_word(target, offset);
+    printf("%s: ", name);
+    if (r.status == PM_DONE)
+        printf("word %08x, known %08x\n", (unsigned)r.word, (unsigned)r.known);
+    else
+        printf("refused as %u, %s\n", (unsigned)r.status, meanings[r.status]);
+}
+
+static void print_picture(const char *title) {
+    puts(title);
+    for (uint32_t y = 0; y < HEIGHT; y++) {
+        printf("  ");
+        for (uint32_t x = 0; x < WIDTH; x++) {
+            char c = '#';
+            switch (picture[y * WIDTH + x]) {
+            case 0x01FFFFFF: c = 'W'; break;
+            case 0x01FFFF00: c = 'Y'; break;
+            case 0x0100FFFF: c = 'C'; break;
+            case 0x0100FF00: c = 'G'; break;
+            case 0x01FF00FF: c = 'M'; break;
+            case 0x01FF0000: c = 'R'; break;
+            case 0x010000FF: c = 'B'; break;
+            case 0x01000000: c = '.'; break; /* black, which was stored */
+            case PM_DOT_BEYOND: c = '-'; break;
+            case PM_DOT_OFF: c = ' '; break;
+            case PM_DOT_NEVER: c = '?'; break;
+            case PM_DOT_UNPLACED: c = '!'; break;
+            }
+            putchar(c);
+        }
+        putchar('\n');
+    }
+}
+
+int main(void) {
+    static const uint32_t colours[8] = { 0xFFFFFF, 0xFFFF00, 0x00FFFF, 0x00FF00, 0xFF00FF, 0xFF0000, 0x0000FF, 0x000000 };
+
+    struct pm_opened o = pm_open(WIDTH, HEIGHT, memory, sizeof memory, picture, sizeof picture / sizeof *picture);
+    printf("opening %u by %u with %u bytes: %u, %s\n", WIDTH, HEIGHT, (unsigned)sizeof memory, (unsigned)o.status, meanings[o.status]);
+    if (o.status != PM_DONE) return 1;
+    state = o.state;
+
+    /* A register that nobody has set is not zero: it is unknown. */
+    print_read("BootAddress (1080h)", PM_REGION_0, 0x1080);
+    print_read("ScreenBase (3000h), never set", PM_REGION_0, 0x3000);
+
+    write_index(0x18, 0x10); /* RDColorMode: 8-bit indexed, GUI */
+    print_picture("shown with ScreenBase and ScreenStride unknown:");
+    write_word(PM_REGION_0, 0x3000, 0);      /* ScreenBase and ScreenStride count units of eight bytes .. */
+    write_word(PM_REGION_0, 0x3008, STRIDE);
+    write_index(0x1E, 0x02); /* RDMiscControl: palette components of eight bits */
+    for (uint32_t i = 0; i < 8; i++) write_entry(i, colours[i]);
+
+    uint32_t changed = 0;
+    for (uint32_t y = 0; y < HEIGHT; y++)
+        for (uint32_t i = 0; i < BARS; i++) changed += write_word(PM_APERTURE_ONE, 8 * STRIDE * y + 4 * i, i * 0x01010101).changed; /* .. an aperture bytes */
+    printf("bars drawn: %u dots changed\n", (unsigned)changed);
+    print_picture("the eighth bar is black, the ninth has an entry that was never stored:");
+
+    /* The two look alike to a program that reads only the word. */
+    print_entry("black", 7);
+    print_entry("never stored", 8);
+
+    print_read("memory beyond its end", PM_APERTURE_ONE, sizeof memory);
+    write_word(PM_REGION_0, 0x4000, 0x20); /* RDPixelClockA1 is written only */
+    print_read("RDPixelClockA1 (index 20h)", PM_REGION_0, 0x4050);
+    print_read("offset 2", PM_REGION_0, 2);
+
+    printf("entry 8 stored as red: %u dots changed\n", (unsigned)write_entry(8, 0xFF0000));
+    print_picture("now:");
+    print_entry("red", 8);
+    return 0;
+}

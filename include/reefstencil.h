@@ -1,0 +1,259 @@
+/* Reefstencil for C: a register-level model of the 3Dlabs Permedia 2, proved in Rattle.
+ *
+ * Two functions are the model. Both are total: whatever numbers they are handed, they end with an answer or with one numbered refusal.
+ * The caller keeps three things and hands them in at each call: the state (by value; a new one comes back), the memory and the picture.
+ * Nothing else is kept anywhere, so that a state can be copied, stored and gone back to, and two chips never meet.
+ *
+ * The archive that `rt staticlib reefstencil` writes, target/staticlib/libreefstencil.a, is for x86-64 Linux (System V calls). It calls nothing
+ * but memcpy, memmove and memset.
+ *
+ * What C must see to, since nothing here can test it:
+ *  - memory points to memory_length bytes and picture to picture_length words that can be read and written. A pointer is never null, also where
+ *    its length is 0, and picture is aligned for uint32_t;
+ *  - memory and picture do not overlap, and nobody else writes them, or the state, during a call.
+ * Any state and any access may be handed in: a state that is none is refused as 1.
+ *
+ * Numbers such as 4000h in this file are offsets in the manual (Permedia 2 Hardware Reference, issue 7); 3.4.1 is a section of it. */
+#ifndef REEFSTENCIL_H
+#define REEFSTENCIL_H
+
+#include <stddef.h>
+#include <stdint.h>
+
+#ifdef __cplusplus
+extern "C" {
+#define PM_ASSERT(test) static_assert(test, #test)
+#define PM_ALIGN(type) alignof(type)
+#else
+#define PM_ASSERT(test) _Static_assert(test, #test)
+#define PM_ALIGN(type) _Alignof(type)
+#endif
+
+/* ---- the status of an answer ---- */
+
+/* An access is tested in the order 1 to 7, an opening in the order 8, 9, 2. A refusal alters nothing, and its answer is zeros with the state as
+ * it was handed in. */
+enum pm_status {
+    PM_DONE = 0,
+    PM_NO_STATE = 1,      /* the state is none */
+    PM_WRONG_LENGTH = 2,  /* a lent buffer has the wrong length */
+    PM_BAD_FORM = 3,      /* target above 3, or enables above 15 */
+    PM_UNALIGNED = 4,     /* the offset is no multiple of four */
+    PM_NOTHING_HERE = 5,  /* no register here, or no memory fitted here */
+    PM_NO_DIRECTION = 6,  /* the register is not read, or not written */
+    PM_MODE_UNSERVED = 7, /* the aperture's mode is not served: swap code 3, packed 16-bit, SVGA or ROM */
+    PM_BAD_PANEL = 8,     /* opening: width or height not 1 to 1,024 */
+    PM_BAD_MEMORY = 9     /* opening: memory no multiple of 8 from 8 to 8,388,608 bytes */
+};
+
+/* ---- an access ---- */
+
+enum pm_target {
+    PM_REGION_0 = 0,     /* the registers */
+    PM_APERTURE_ONE = 1, /* memory, in the mode of register 50h */
+    PM_APERTURE_TWO = 2, /* memory, in the mode of register 58h */
+    PM_CONFIGURATION = 3 /* the PCI configuration header */
+};
+
+struct pm_access {
+    uint32_t target;  /* enum pm_target */
+    uint32_t offset;  /* in bytes from the start of the target; a multiple of four */
+    uint32_t write;   /* 0: a read; any other number: a write */
+    uint32_t enables; /* byte enables, 0 to 15: bit i for lane i, which is bits 8i to 8i + 7 of word */
+    uint32_t word;    /* what is written; not looked at by a read */
+};
+
+/* ---- the state ---- */
+
+/* A state comes from pm_open or from an answer. Its fields may be read and stored; a C program has no need to write them. */
+
+#define PM_ROWS 38u        /* registers of region 0 */
+#define PM_HEADER_ROWS 17u /* registers of the header */
+#define PM_INDICES 256u    /* places for indirect registers */
+#define PM_ENTRIES 256u    /* palette entries */
+
+/* Which element of values and knowns is which register of region 0, with its offset. */
+enum pm_row {
+    PM_ROW_APERTURE_ONE = 0,            /* 0050h */
+    PM_ROW_APERTURE_TWO = 1,            /* 0058h */
+    PM_ROW_BY_DMA_ADDRESS = 2,          /* 00A0h */
+    PM_ROW_BY_DMA_STRIDE = 3,           /* 00B8h */
+    PM_ROW_BY_DMA_MEM_ADDR = 4,         /* 00C0h */
+    PM_ROW_BY_DMA_SIZE = 5,             /* 00C8h */
+    PM_ROW_BY_DMA_BYTE_MASK = 6,        /* 00D0h */
+    PM_ROW_BY_DMA_CONTROL = 7,          /* 00D8h */
+    PM_ROW_BY_DMA_COMPLETE = 8,         /* 00E8h */
+    PM_ROW_REBOOT = 9,                  /* 1000h */
+    PM_ROW_MEM_CONTROL = 10,            /* 1040h */
+    PM_ROW_BOOT_ADDRESS = 11,           /* 1080h */
+    PM_ROW_MEM_CONFIG = 12,             /* 10C0h */
+    PM_ROW_BYPASS_WRITE_MASK = 13,      /* 1100h */
+    PM_ROW_FRAMEBUFFER_WRITE_MASK = 14, /* 1140h */
+    PM_ROW_COUNT = 15,                  /* 1180h */
+    PM_ROW_SCREEN_BASE = 16,            /* 3000h, in units of eight bytes */
+    PM_ROW_SCREEN_STRIDE = 17,          /* 3008h, in units of eight bytes */
+    PM_ROW_H_TOTAL = 18,                /* 3010h */
+    PM_ROW_HG_END = 19,                 /* 3018h */
+    PM_ROW_HB_END = 20,                 /* 3020h */
+    PM_ROW_HS_START = 21,               /* 3028h */
+    PM_ROW_HS_END = 22,                 /* 3030h */
+    PM_ROW_V_TOTAL = 23,                /* 3038h */
+    PM_ROW_VB_END = 24,                 /* 3040h */
+    PM_ROW_VS_START = 25,               /* 3048h */
+    PM_ROW_VS_END = 26,                 /* 3050h */
+    PM_ROW_VIDEO_CONTROL = 27,          /* 3058h */
+    PM_ROW_INTERRUPT_LINE = 28,         /* 3060h */
+    PM_ROW_DISPLAY_DATA = 29,           /* 3068h */
+    PM_ROW_LINE_COUNT = 30,             /* 3070h */
+    PM_ROW_FIFO_CONTROL = 31,           /* 3078h */
+    PM_ROW_SCREEN_BASE_RIGHT = 32,      /* 3080h */
+    PM_ROW_PIXEL_MASK = 33,             /* 4010h */
+    PM_ROW_CURSOR_X_LOW = 34,           /* 4060h */
+    PM_ROW_CURSOR_X_HIGH = 35,          /* 4068h */
+    PM_ROW_CURSOR_Y_LOW = 36,           /* 4070h */
+    PM_ROW_CURSOR_Y_HIGH = 37           /* 4078h */
+};
+
+/* Which element of header is which word of the configuration header, with its offset. */
+enum pm_header_row {
+    PM_HEADER_VENDOR_DEVICE = 0,     /* 00h */
+    PM_HEADER_COMMAND_STATUS = 1,    /* 04h */
+    PM_HEADER_REVISION_CLASS = 2,    /* 08h */
+    PM_HEADER_LATENCY = 3,           /* 0Ch: cache line, latency timer, header type, self test */
+    PM_HEADER_BASE_0 = 4,            /* 10h */
+    PM_HEADER_BASE_1 = 5,            /* 14h */
+    PM_HEADER_BASE_2 = 6,            /* 18h */
+    PM_HEADER_CARD_BUS = 7,          /* 28h */
+    PM_HEADER_SUBSYSTEM = 8,         /* 2Ch: vendor in bits 0 to 15, ID in 16 to 31 */
+    PM_HEADER_ROM_BASE = 9,          /* 30h */
+    PM_HEADER_CAPABILITY = 10,       /* 34h */
+    PM_HEADER_INTERRUPT = 11,        /* 3Ch: line, pin, minimum grant, maximum latency */
+    PM_HEADER_AGP_ID = 12,           /* 40h */
+    PM_HEADER_AGP_STATUS = 13,       /* 44h */
+    PM_HEADER_AGP_COMMAND = 14,      /* 48h */
+    PM_HEADER_INDIRECT_ADDRESS = 15, /* F8h */
+    PM_HEADER_INDIRECT_DATA = 16     /* FCh */
+};
+
+/* The RAMDAC's one address, which serves palette reads, palette writes and the index, with what hangs on it. */
+struct pm_dac {
+    uint8_t address;   /* a palette entry, or an index */
+    uint8_t known;     /* which bits of address are known; the others are 0 in it. FFh once an address was set */
+    uint8_t component; /* the next palette data access is for 0 red, 1 green, 2 blue */
+    uint8_t staged;    /* palette bytes written and not stored yet: 1 red; 2 red and green; any other number: none */
+    uint8_t red;       /* the staged red .. */
+    uint8_t green;     /* .. and green, as they will be stored */
+};
+
+/* The stored components are eight bits each, whichever width the palette was loaded in. */
+struct pm_palette {
+    uint8_t red[256];
+    uint8_t green[256];
+    uint8_t blue[256];
+    uint8_t stored[256]; /* 1: this entry was stored; 0: it never was, and its components are 0 and mean nothing */
+};
+
+struct pm_state {
+    uint32_t width;         /* the panel in dots, as given at opening .. */
+    uint32_t height;
+    uint32_t fitted;        /* .. and the length of memory in bytes */
+    uint32_t once;          /* write-once numbers that are fixed: bit 0 the subsystem vendor, bit 1 the subsystem ID */
+    uint32_t values[38];    /* region 0: what each register holds, by enum pm_row; 0 wherever it is unknown .. */
+    uint32_t knowns[38];    /* .. and which of its bits are known */
+    uint32_t header[17];    /* the configuration header, by enum pm_header_row */
+    uint8_t indirect[256];  /* the RAMDAC's indirect registers, by their index; 0 where there is none */
+    struct pm_dac dac;
+    struct pm_palette palette; /* starts two bytes before a multiple of four: it is bytes only */
+    /* two bytes follow that mean nothing and may differ in equal states: compare fields, not bytes */
+};
+
+/* ---- what comes back ---- */
+
+struct pm_answer {
+    uint32_t status;  /* enum pm_status, 0 to 7 */
+    uint32_t word;    /* what a read saw. A bit counts only where known has it set; it is 0 everywhere else */
+    uint32_t known;   /* which bits of word are known; 0 after a write */
+    uint32_t changed; /* how many words of the picture differ before and after */
+    struct pm_state state; /* the state from now on; after a refusal the one that was handed in */
+};
+
+struct pm_opened {
+    uint32_t status;       /* enum pm_status: 0, 8, 9 or 2 */
+    struct pm_state state; /* the reset state; after a refusal a state of 0 by 0 dots, with which every access is refused as 1 */
+};
+
+/* ---- the picture ---- */
+
+/* Dot (x, y) is word y * width + x. The upper byte says what the word is. */
+#define PM_DOT_COLOUR 0x01000000u   /* plus RRGGBBh: the stored palette entry of the dot's byte */
+#define PM_DOT_BEYOND 0x02000000u   /* the dot's byte lies beyond fitted memory */
+#define PM_DOT_OFF 0x03000000u      /* RDColorMode is not the 8-bit indexed mode; every dot after opening */
+#define PM_DOT_NEVER 0x04000000u    /* the dot's palette entry was never stored */
+#define PM_DOT_UNPLACED 0x05000000u /* ScreenBase, ScreenStride or RDPixelMask has an unknown bit */
+
+/* ---- the two functions ---- */
+
+/* A buffer is a pointer and then its length: memory in bytes, picture in words. */
+
+/* Opens a panel. Fills picture, which must have width * height words, with PM_DOT_OFF, and leaves memory as it is. */
+struct pm_opened pm_open(uint32_t width, uint32_t height, uint8_t *memory, size_t memory_length, uint32_t *picture, size_t picture_length);
+
+/* One access. Memory and picture have the lengths of the opening. Writes exactly those dots whose word the access changes. */
+struct pm_answer pm_access(struct pm_state s, struct pm_access a, uint8_t *memory, size_t memory_length, uint32_t *picture, size_t picture_length);
+
+/* ---- the layout, tested where this file is compiled. tests/layout tests it against the library ---- */
+
+PM_ASSERT(sizeof(uint8_t) == 1 && sizeof(uint32_t) == 4 && sizeof(size_t) == 8 && sizeof(void *) == 8);
+
+PM_ASSERT(sizeof(struct pm_access) == 20 && PM_ALIGN(struct pm_access) == 4);
+PM_ASSERT(offsetof(struct pm_access, target) == 0);
+PM_ASSERT(offsetof(struct pm_access, offset) == 4);
+PM_ASSERT(offsetof(struct pm_access, write) == 8);
+PM_ASSERT(offsetof(struct pm_access, enables) == 12);
+PM_ASSERT(offsetof(struct pm_access, word) == 16);
+
+PM_ASSERT(sizeof(struct pm_dac) == 6 && PM_ALIGN(struct pm_dac) == 1);
+PM_ASSERT(offsetof(struct pm_dac, address) == 0);
+PM_ASSERT(offsetof(struct pm_dac, known) == 1);
+PM_ASSERT(offsetof(struct pm_dac, component) == 2);
+PM_ASSERT(offsetof(struct pm_dac, staged) == 3);
+PM_ASSERT(offsetof(struct pm_dac, red) == 4);
+PM_ASSERT(offsetof(struct pm_dac, green) == 5);
+
+PM_ASSERT(sizeof(struct pm_palette) == 1024 && PM_ALIGN(struct pm_palette) == 1);
+PM_ASSERT(offsetof(struct pm_palette, red) == 0);
+PM_ASSERT(offsetof(struct pm_palette, green) == 256);
+PM_ASSERT(offsetof(struct pm_palette, blue) == 512);
+PM_ASSERT(offsetof(struct pm_palette, stored) == 768);
+
+PM_ASSERT(sizeof(struct pm_state) == 1676 && PM_ALIGN(struct pm_state) == 4);
+PM_ASSERT(offsetof(struct pm_state, width) == 0);
+PM_ASSERT(offsetof(struct pm_state, height) == 4);
+PM_ASSERT(offsetof(struct pm_state, fitted) == 8);
+PM_ASSERT(offsetof(struct pm_state, once) == 12);
+PM_ASSERT(offsetof(struct pm_state, values) == 16);
+PM_ASSERT(offsetof(struct pm_state, knowns) == 168);
+PM_ASSERT(offsetof(struct pm_state, header) == 320);
+PM_ASSERT(offsetof(struct pm_state, indirect) == 388);
+PM_ASSERT(offsetof(struct pm_state, dac) == 644);
+PM_ASSERT(offsetof(struct pm_state, palette) == 650);
+
+PM_ASSERT(sizeof(struct pm_answer) == 1692 && PM_ALIGN(struct pm_answer) == 4);
+PM_ASSERT(offsetof(struct pm_answer, status) == 0);
+PM_ASSERT(offsetof(struct pm_answer, word) == 4);
+PM_ASSERT(offsetof(struct pm_answer, known) == 8);
+PM_ASSERT(offsetof(struct pm_answer, changed) == 12);
+PM_ASSERT(offsetof(struct pm_answer, state) == 16);
+
+PM_ASSERT(sizeof(struct pm_opened) == 1680 && PM_ALIGN(struct pm_opened) == 4);
+PM_ASSERT(offsetof(struct pm_opened, status) == 0);
+PM_ASSERT(offsetof(struct pm_opened, state) == 4);
+
+#undef PM_ASSERT
+#undef PM_ALIGN
+
+#ifdef __cplusplus
+}
+#endif
+
+#endif

@@ -1,0 +1,243 @@
+/* The layout of include/reefstencil.h against the library's own: each field is written on one side and read on the other, both ways.
+ *
+ * Places are numbered over a whole struct, field after field and element after element. Two rounds give each place two numbers that no other place
+ * has together: a byte holds its number's lower byte in round 0 and the upper one in round 1, a word holds its number and the round. So two fields,
+ * two elements or two widths that are taken for each other are seen. */
+#include "reefstencil.h"
+#include <stdio.h>
+#include <string.h>
+
+/* crates/layout, which is proved to make and to take apart each struct by its fields' names */
+struct pm_access made_access(uint32_t target, uint32_t offset, uint32_t write, uint32_t enables, uint32_t word);
+struct pm_state made_state(uint32_t width, uint32_t height, uint32_t fitted, uint32_t once, const uint32_t *values, const uint32_t *knowns,
+    const uint32_t *header, const uint8_t *indirect, uint8_t address, uint8_t known, uint8_t component, uint8_t staged, uint8_t staged_red,
+    uint8_t staged_green, const uint8_t *red, const uint8_t *green, const uint8_t *blue, const uint8_t *stored);
+struct pm_answer made_answer(uint32_t status, uint32_t word, uint32_t known, uint32_t changed, struct pm_state s);
+struct pm_opened made_opened(uint32_t status, struct pm_state s);
+void parts_of_access(struct pm_access a, uint32_t *out);
+void sizes_of_state(struct pm_state s, uint32_t *out);
+void values_of_state(struct pm_state s, uint32_t *out);
+void knowns_of_state(struct pm_state s, uint32_t *out);
+void header_of_state(struct pm_state s, uint32_t *out);
+void indirect_of_state(struct pm_state s, uint8_t *out);
+void dac_of_state(struct pm_state s, uint8_t *out);
+void red_of_state(struct pm_state s, uint8_t *out);
+void green_of_state(struct pm_state s, uint8_t *out);
+void blue_of_state(struct pm_state s, uint8_t *out);
+void stored_of_state(struct pm_state s, uint8_t *out);
+void parts_of_answer(struct pm_answer a, uint32_t *out);
+struct pm_state state_of_answer(struct pm_answer a);
+uint32_t status_of_opened(struct pm_opened o);
+struct pm_state state_of_opened(struct pm_opened o);
+
+static unsigned place, round_number;
+static unsigned tested, failed;
+
+static uint8_t next_byte(void) {
+    unsigned n = place++;
+    return (uint8_t)(round_number == 0 ? n % 256 : n / 256);
+}
+
+static uint32_t next_word(void) { return 0x5A000000u + 0x10000u * round_number + place++; }
+
+static void same(const char *what, unsigned at, uint32_t found, uint32_t wanted) {
+    tested++;
+    if (found != wanted) {
+        failed++;
+        printf("%s[%u]: %08x where %08x was written\n", what, at, (unsigned)found, (unsigned)wanted);
+    }
+}
+
+static void fill_words(uint32_t *out, unsigned n) {
+    for (unsigned i = 0; i < n; i++) out[i] = next_word();
+}
+
+static void fill_bytes(uint8_t *out, unsigned n) {
+    for (unsigned i = 0; i < n; i++) out[i] = next_byte();
+}
+
+static void same_words(const char *what, const uint32_t *found, unsigned n) {
+    for (unsigned i = 0; i < n; i++) same(what, i, found[i], next_word());
+}
+
+static void same_bytes(const char *what, const uint8_t *found, unsigned n) {
+    for (unsigned i = 0; i < n; i++) same(what, i, found[i], next_byte());
+}
+
+/* ---- a state, by C's names, in the order of its fields ---- */
+
+static struct pm_state written_state(unsigned from) {
+    struct pm_state s;
+    memset(&s, 0xEE, sizeof s);
+    place = from;
+    s.width = next_word();
+    s.height = next_word();
+    s.fitted = next_word();
+    s.once = next_word();
+    fill_words(s.values, 38);
+    fill_words(s.knowns, 38);
+    fill_words(s.header, 17);
+    fill_bytes(s.indirect, 256);
+    s.dac.address = next_byte();
+    s.dac.known = next_byte();
+    s.dac.component = next_byte();
+    s.dac.staged = next_byte();
+    s.dac.red = next_byte();
+    s.dac.green = next_byte();
+    fill_bytes(s.palette.red, 256);
+    fill_bytes(s.palette.green, 256);
+    fill_bytes(s.palette.blue, 256);
+    fill_bytes(s.palette.stored, 256);
+    return s;
+}
+
+static void read_state(const struct pm_state *s, unsigned from) {
+    place = from;
+    same("state.width", 0, s->width, next_word());
+    same("state.height", 0, s->height, next_word());
+    same("state.fitted", 0, s->fitted, next_word());
+    same("state.once", 0, s->once, next_word());
+    same_words("state.values", s->values, 38);
+    same_words("state.knowns", s->knowns, 38);
+    same_words("state.header", s->header, 17);
+    same_bytes("state.indirect", s->indirect, 256);
+    same("state.dac.address", 0, s->dac.address, next_byte());
+    same("state.dac.known", 0, s->dac.known, next_byte());
+    same("state.dac.component", 0, s->dac.component, next_byte());
+    same("state.dac.staged", 0, s->dac.staged, next_byte());
+    same("state.dac.red", 0, s->dac.red, next_byte());
+    same("state.dac.green", 0, s->dac.green, next_byte());
+    same_bytes("state.palette.red", s->palette.red, 256);
+    same_bytes("state.palette.green", s->palette.green, 256);
+    same_bytes("state.palette.blue", s->palette.blue, 256);
+    same_bytes("state.palette.stored", s->palette.stored, 256);
+}
+
+/* ---- the same by the library: made from its parts, and taken apart ---- */
+
+static struct pm_state library_state(unsigned from) {
+    uint32_t sizes[4], values[38], knowns[38], header[17];
+    uint8_t indirect[256], dac[6], red[256], green[256], blue[256], stored[256];
+    place = from;
+    fill_words(sizes, 4);
+    fill_words(values, 38);
+    fill_words(knowns, 38);
+    fill_words(header, 17);
+    fill_bytes(indirect, 256);
+    fill_bytes(dac, 6);
+    fill_bytes(red, 256);
+    fill_bytes(green, 256);
+    fill_bytes(blue, 256);
+    fill_bytes(stored, 256);
+    return made_state(sizes[0], sizes[1], sizes[2], sizes[3], values, knowns, header, indirect, dac[0], dac[1], dac[2], dac[3], dac[4], dac[5], red,
+        green, blue, stored);
+}
+
+static void library_reads_state(struct pm_state s, unsigned from) {
+    uint32_t words[38];
+    uint8_t bytes[256];
+    place = from;
+    sizes_of_state(s, words);
+    same_words("library: width, height, fitted, once", words, 4);
+    values_of_state(s, words);
+    same_words("library: values", words, 38);
+    knowns_of_state(s, words);
+    same_words("library: knowns", words, 38);
+    header_of_state(s, words);
+    same_words("library: header", words, 17);
+    indirect_of_state(s, bytes);
+    same_bytes("library: indirect", bytes, 256);
+    dac_of_state(s, bytes);
+    same_bytes("library: dac", bytes, 6);
+    red_of_state(s, bytes);
+    same_bytes("library: palette.red", bytes, 256);
+    green_of_state(s, bytes);
+    same_bytes("library: palette.green", bytes, 256);
+    blue_of_state(s, bytes);
+    same_bytes("library: palette.blue", bytes, 256);
+    stored_of_state(s, bytes);
+    same_bytes("library: palette.stored", bytes, 256);
+}
+
+/* ---- the small structs: their words first, then the state ---- */
+
+static void test_access(void) {
+    uint32_t w[5];
+    place = 1;
+    struct pm_access c;
+    c.target = next_word();
+    c.offset = next_word();
+    c.write = next_word();
+    c.enables = next_word();
+    c.word = next_word();
+    parts_of_access(c, w);
+    place = 1;
+    same_words("library: access", w, 5);
+
+    place = 1;
+    fill_words(w, 5);
+    struct pm_access r = made_access(w[0], w[1], w[2], w[3], w[4]);
+    place = 1;
+    same("access.target", 0, r.target, next_word());
+    same("access.offset", 0, r.offset, next_word());
+    same("access.write", 0, r.write, next_word());
+    same("access.enables", 0, r.enables, next_word());
+    same("access.word", 0, r.word, next_word());
+}
+
+static void test_answer(void) {
+    uint32_t w[4];
+    struct pm_answer c;
+    c.state = written_state(5);
+    place = 1;
+    c.status = next_word();
+    c.word = next_word();
+    c.known = next_word();
+    c.changed = next_word();
+    parts_of_answer(c, w);
+    place = 1;
+    same_words("library: answer", w, 4);
+    struct pm_state s = state_of_answer(c);
+    read_state(&s, 5);
+
+    place = 1;
+    fill_words(w, 4);
+    struct pm_answer r = made_answer(w[0], w[1], w[2], w[3], library_state(5));
+    place = 1;
+    same("answer.status", 0, r.status, next_word());
+    same("answer.word", 0, r.word, next_word());
+    same("answer.known", 0, r.known, next_word());
+    same("answer.changed", 0, r.changed, next_word());
+    read_state(&r.state, 5);
+}
+
+static void test_opened(void) {
+    struct pm_opened c;
+    c.state = written_state(2);
+    place = 1;
+    c.status = next_word();
+    uint32_t status = status_of_opened(c);
+    place = 1;
+    same("library: opened.status", 0, status, next_word());
+    struct pm_state s = state_of_opened(c);
+    read_state(&s, 2);
+
+    place = 1;
+    struct pm_opened r = made_opened(next_word(), library_state(2));
+    place = 1;
+    same("opened.status", 0, r.status, next_word());
+    read_state(&r.state, 2);
+}
+
+int main(void) {
+    for (round_number = 0; round_number < 2; round_number++) {
+        library_reads_state(written_state(1), 1);
+        struct pm_state s = library_state(1);
+        read_state(&s, 1);
+        test_access();
+        test_answer();
+        test_opened();
+    }
+    printf("layout: %u numbers tested, %u wrong\n", tested, failed);
+    return failed != 0;
+}

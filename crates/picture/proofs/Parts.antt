@@ -14,7 +14,7 @@ use lib.Seq.{getD-set-same, getD-set-other, ext-getD}
 use Rattle.bits.specs.Choose.{pick}
 use Rattle.bits.proofs.Cases.{byTest}
 use Rattle.chip.specs.Picture.{chosen, redrawn, diffs}
-use Rattle.chip.proofs.Redraw.{redrawn-length, redrawn-at, diffs-self, diffs-le}
+use Rattle.chip.proofs.Redraw.{redrawn-length, redrawn-at, diffs-self}
 use Rattle.picture.specs.Draw.{Redraws, Part, Put}
 
 -- ---- counts

@@ -1,5 +1,6 @@
 // The picture: dots' words by the rules, and the redraw of those that change and of no others.
 mod dot; // dot.rt: one dot's word, and one dot's store
+mod entry; // entry.rt: the dots that show one palette entry
 pub mod poke; // poke.rt: one byte of memory, and the dots that show it
 pub mod redraw; // redraw.rt: a redraw for a change of state
 mod rows; // rows.rt: every dot of the picture

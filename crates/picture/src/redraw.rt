@@ -69,7 +69,9 @@ fn redraw_fit<'a>(s: State, n: State, memory: &'a [u8], picture: &mut [u32]) -> 
     let b1 = base_of(n);
     let k0 = stride_of(s);
     let k1 = stride_of(n);
+    let found = crate::entry::differing(&t0, &t1);
     crate::rows::draw_rows(
+        found,
         past_of(fixed_of(s)),
         b0.0,
         k0.0,

@@ -30,6 +30,14 @@ fn say_answer(status: u32, shown: u32, known: u32, changed: u32) {
     say(&out[..n]);
 }
 
+fn say_bad(words: bool) {
+    if words {
+        say(b"bad line: expected is r TARGET OFFSET ENABLES, or w TARGET OFFSET ENABLES WORD\n");
+    } else {
+        say(b"bad\n");
+    }
+}
+
 // A line's answer, in the trace's form or in words; a line of another form alters nothing.
 fn answer_line(
     s: State,
@@ -41,7 +49,7 @@ fn answer_line(
     let asked = read(line);
     match asked {
         Asked::Bad => {
-            say(b"bad\n");
+            say_bad(words);
             s
         }
         Asked::For(a) => {

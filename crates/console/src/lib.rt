@@ -1,5 +1,6 @@
 // Standard input and output for the programs. Of the libraries this one alone rests on the contracts that the kit states for the C library.
 pub mod say; // say.rt: texts and numbers to standard output
+pub mod clock; // clock.rt: processor time
 pub mod names; // names.rt: the registers' names
 mod explain; // explain.rt: one readable line for an access
 mod session; // session.rt: the loop over standard input

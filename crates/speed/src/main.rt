@@ -2,6 +2,7 @@
 // dots in both. It measures only where its standard input has a byte, and writes nothing otherwise, since times vary.
 use chip::Access;
 use chip::State;
+use console::clock::microseconds;
 use console::say::say;
 use console::say::say_number;
 
@@ -94,23 +95,10 @@ fn writes(s: State, step: u32, memory: &mut [u8], picture: &mut [u32]) -> u32 {
     dots
 }
 
-// Modulo 2^32; 0 for a clock that fails.
-fn unsigned(t: i64) -> u32 {
-    if t > 0 {
-        return ((t as u64) % 4294967296) as u32;
-    }
-    0
-}
-
-// Processor time in microseconds.
-fn now_us() -> u32 {
-    unsigned(libc::clock())
-}
-
 fn timed(s: State, step: u32, memory: &mut [u8], picture: &mut [u32]) -> u32 {
-    let a = now_us();
+    let a = microseconds();
     let dots = writes(s, step, memory, picture);
-    let b = now_us();
+    let b = microseconds();
     let t = std::num::wrapping_sub_u32(b, a);
     say_number(t);
     say(b" microseconds, ");
@@ -160,9 +148,7 @@ fn measure() {
 }
 
 fn main() {
-    let mut buffer = [0u8; 1];
-    let got = libc::read(0, &mut buffer);
-    if got > 0 {
+    if console::clock::has_input() {
         measure();
     }
 }

@@ -1,4 +1,4 @@
--- `speed::unsigned`: the cast loses nothing, since the number is above zero. Assumes nothing.
+-- `console::clock::unsigned`: the cast loses nothing, since the number is above zero. Assumes nothing.
 use mathlib.Core.Path.{_≡_, sym, subst}
 use mathlib.Core.Bool.{true}
 use lib.IntN.{ℤ, pos, negsuc}
@@ -8,8 +8,8 @@ use mir.Syntax.{w64}
 use mir.Val.{toZ, ofZ}
 use mir.Facts.{fits-natAbs, sfits-toZ, fits-ofZ}
 use borrow.Author.Needs.{needs}
-use Rattle.speed.proofs.unsigned.Statement.{statement}
-use Rattle.speed.proofs.unsigned.Tie as tie
+use Rattle.console.proofs.clock.unsigned.Statement.{statement}
+use Rattle.console.proofs.clock.unsigned.Tie as tie
 
 -- the test `t > 0`, on the number that the machine reads back from t's bits
 positive : (z : ℤ) → ltZ (pos 0) z ≡ true → T (nonNeg z)

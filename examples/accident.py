@@ -16,67 +16,57 @@ The sections named in comments are those of the Permedia 2 Hardware Reference
 Manual, issue 7.
 """
 
-import sys
+from tracing import (
+    APERTURE_ONE,
+    CONFIGURATION,
+    PALETTE_DATA,
+    PALETTE_READ_ADDRESS,
+    PALETTE_WRITE_ADDRESS,
+    PIXEL_MASK,
+    REGION_ZERO,
+    dac,
+    dac_read,
+    finish,
+    indexed,
+    read,
+    step,
+    steps,
+    write,
+)
 
-WIDTH, HEIGHT = 32, 8
-lines, steps = [], []
-
-
-def step(text):
-    steps.append((len(lines) + 1, text))
-
-
-def read(target, offset, enables=15):
-    lines.append(f"r {target} {offset:x} {enables:x}")
-
-
-def write(target, offset, word, enables=15):
-    lines.append(f"w {target} {offset:x} {enables:x} {word:x}")
-
-
-def dac(offset, byte):
-    """A direct RAMDAC register, which uses lane 0 alone (3.6)."""
-    write(0, offset, byte, 1)
-
-
-def indexed(index, byte):
-    """An indirect RAMDAC register: its index, then its byte (5.4)."""
-    dac(0x4000, index)
-    dac(0x4050, byte)
-
-
+WIDTH = 32  # dots, and bytes from row to row
 BACK, GREEN, YELLOW, RED, BAR = range(5)
 WANTED = [(16, 20, 36), (16, 84, 44), (176, 136, 16), (168, 24, 28), (0, 0, 0)]
 
 step("the chip is there: vendor and device (2.14.1, 2.14.2)")
-read(3, 0x00)
+read(CONFIGURATION, 0x00)
 step("palette width 8 bits (3.6.17)")
 indexed(0x1E, 0x02)
 step("pixel mask, all planes (3.6.3)")
-dac(0x4010, 0xFF)
+dac(PIXEL_MASK, 0xFF)
 step("colour mode CI8 with GUI: all 256 dots become 05000000h (3.6.14)")
 indexed(0x18, 0x10)
 
 for entry, wanted in enumerate(WANTED):
     step(f"entry {entry} is read: word 0, known mask 0, for it was never stored (5.5)")
-    dac(0x4018, entry)
+    dac(PALETTE_READ_ADDRESS, entry)
     for _ in wanted:
-        read(0, 0x4008, 1)
+        dac_read(PALETTE_DATA)
     # The mistake: a word of zero is taken for a component of zero.
     word_read = (0, 0, 0)
     if word_read != wanted:
         step(f"it is not {wanted}, so it is stored (5.5)")
-        dac(0x4000, entry)
+        dac(PALETTE_WRITE_ADDRESS, entry)
         for component in wanted:
-            dac(0x4008, component)
+            dac(PALETTE_DATA, component)
     else:
-        steps[-1] = (steps[-1][0], steps[-1][1] + "; taken for the black that is wanted, and left out: the accident")
+        steps[-1][1] += "; taken for the black that is wanted, and left out: the accident"
 
 step("screen: stride of 32 bytes, 4 units of eight, and base 0; the dots become the background (3.4.2, 3.4.1)")
-write(0, 0x3008, WIDTH // 8)
-write(0, 0x3000, 0)
+write(REGION_ZERO, 0x3008, WIDTH // 8)
+write(REGION_ZERO, 0x3000, 0)
 step("video on, syncs active high (3.4.12)")
-write(0, 0x3058, 0x29)
+write(REGION_ZERO, 0x3058, 0x29)
 
 step("rows 1 to 6 through aperture one: zones of green, yellow and red, and in rows 2 to 5 the contact bars in entry 4, which show 04000000h (3.2.11)")
 for y in range(1, 7):
@@ -85,15 +75,11 @@ for y in range(1, 7):
         for x in (3, 7, 14, 18, 24, 28):
             row[x : x + 2] = [BAR, BAR]
     for x in range(0, WIDTH, 4):
-        write(1, WIDTH * y + x, int.from_bytes(bytes(row[x : x + 4]), "little"))
+        write(APERTURE_ONE, WIDTH * y + x, int.from_bytes(bytes(row[x : x + 4]), "little"))
 
 step("entry 4 is read once more: still word 0, known mask 0 (5.5)")
-dac(0x4018, BAR)
+dac(PALETTE_READ_ADDRESS, BAR)
 for _ in range(3):
-    read(0, 0x4008, 1)
+    dac_read(PALETTE_DATA)
 
-if "--steps" in sys.argv:
-    for (first, what), (after, _) in zip(steps, steps[1:] + [(len(lines) + 1, "")]):
-        print(f"{first}-{after - 1}: {what}")
-else:
-    print("\n".join(lines))
+finish()

@@ -9,6 +9,7 @@ use text::Size;
 use text::panel::decimal;
 use text::panel::size;
 ghost use Prim.Native.Nat.{_≤_};
+ghost use lib.ListN.{length};
 
 fn complain(text: &[u8]) {
     io::write_all(2, text);
@@ -37,7 +38,7 @@ fn is_dash(path: &[u8]) -> bool {
     path[0] == b'-'
 }
 
-// The picture's file, made before anything is run: NO_FILE where none is asked for, -1 (and a message) where it can't be written.
+// The picture's file, made once the panel is open and before anything is run, so that a bad argument empties no file: NO_FILE where none is asked for, -1 (and a message) where it can't be written.
 fn picture_file(i: usize) -> i32 {
     if os::arg_count() <= i {
         return NO_FILE;
@@ -89,10 +90,14 @@ fn refused(status: u32) {
 }
 
 // Opens the panel, runs standard input, and writes the picture.
-fn on_panel(width: u32, height: u32, words: bool, fd: i32, memory: &mut [u8], picture: &mut [u32]) {
+fn on_panel(width: u32, height: u32, words: bool, memory: &mut [u8], picture: &mut [u32]) {
     let o = open(width, height, memory, picture);
     if o.status != 0 {
         refused(o.status);
+        return;
+    }
+    let fd = picture_file(3);
+    if fd == -1 {
         return;
     }
     header(width, height, o.state.fitted);
@@ -101,17 +106,10 @@ fn on_panel(width: u32, height: u32, words: bool, fd: i32, memory: &mut [u8], pi
 }
 
 // The parts of the two rooms that the panel asks for.
-fn cut(
-    width: u32,
-    height: u32,
-    bytes: u32,
-    words: bool,
-    fd: i32,
-    memory: &mut [u8],
-    picture: &mut [u32],
-)
+fn cut(width: u32, height: u32, bytes: u32, words: bool, memory: &mut [u8], picture: &mut [u32])
     requires { ⌜ width ≤ 1024 ⌝ }
     requires { ⌜ height ≤ 1024 ⌝ }
+    requires { ⌜ 1048576 ≤ length (now picture) ⌝ }
 {
     let fitted = bytes as usize;
     let dots = (width * height) as usize;
@@ -121,28 +119,23 @@ fn cut(
         );
         return;
     }
-    if picture.len() < dots {
-        complain(b"the panel is too large\n");
-        return;
-    }
     on_panel(
         width,
         height,
         words,
-        fd,
         &mut memory[..fitted],
         &mut picture[..dots],
     );
 }
 
 // Memory and picture are on the stack, which commonly holds 8 MiB: 2 MiB of memory and the largest picture fit.
-fn show(width: u32, height: u32, bytes: u32, words: bool, fd: i32)
+fn show(width: u32, height: u32, bytes: u32, words: bool)
     requires { ⌜ width ≤ 1024 ⌝ }
     requires { ⌜ height ≤ 1024 ⌝ }
 {
     let mut memory = [0u8; 2097152];
     let mut picture = [0u32; 1048576];
-    cut(width, height, bytes, words, fd, &mut memory, &mut picture);
+    cut(width, height, bytes, words, &mut memory, &mut picture);
 }
 
 fn start(width: u32, height: u32, bytes: u32, words: bool) {
@@ -154,11 +147,7 @@ fn start(width: u32, height: u32, bytes: u32, words: bool) {
         complain(b"the panel is too high: expected are 1 to 1024 dots\n");
         return;
     }
-    let fd = picture_file(3);
-    if fd == -1 {
-        return;
-    }
-    show(width, height, bytes, words, fd);
+    show(width, height, bytes, words);
 }
 
 fn from_arguments(words: bool, usage: &[u8]) {

@@ -1,4 +1,4 @@
--- A panel's size as an argument: WIDTHxHEIGHT, each one to eight decimal digits.
+-- A panel's size as an argument: WIDTHxHEIGHT, each one to eight decimal digits (docs/DECISIONS.md, D-37).
 use Prim.Native.Nat.{ℕ, suc}
 use mathlib.Core.Bool.{false, _&&_}
 use mathlib.Core.List.{List}

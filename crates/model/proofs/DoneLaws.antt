@@ -4,7 +4,6 @@ use Prim.Native.Nat.{ℕ, _*_}
 use mathlib.Core.Bool.{Bool, true, false, not, _&&_}
 use mathlib.Core.List.{List}
 use mathlib.Core.Path.{_≡_, refl, sym, ap, ap₂, _∙_, subst}
-use native.Mathlib.Nat.{le-refl}
 use borrow.Author.Tests.{eq-eqb, ne-eqb, not-false}
 use lib.Dec.{eqb, ltb, leb}
 use lib.ListN.{getD, length}
@@ -15,6 +14,8 @@ use Rattle.bits.proofs.Cases.{pick-by}
 use Rattle.bits.proofs.Bools.{and-first, and-second, and-both, clash}
 use Rattle.chip.specs.declared.State.{State}
 use Rattle.chip.specs.declared.Access.{Access}
+use Rattle.chip.specs.declared.Dac.{Dac}
+use Rattle.chip.specs.Dac.{afterPeek}
 use Rattle.chip.specs.declared.Answer.{Answer}
 use Rattle.chip.specs.declared.Seen.{Seen}
 use Rattle.chip.specs.declared.Place.{Place}
@@ -34,18 +35,12 @@ use Rattle.chip.proofs.Lines.{none-holds}
 use Rattle.chip.proofs.Lent.{read-memory}
 use Rattle.bits.proofs.Words.{inside-zero}
 use Rattle.picture.specs.Draw.{fits, Redraws}
-use Rattle.picture.proofs.Parts.{part-idle, part-all}
-use Rattle.model.specs.Parts.{sizesOk, mayShow}
+use Rattle.picture.proofs.Parts.{still-redraws}
+use Rattle.model.specs.Parts.{sizesOk, dacAfter, mayShow}
 use Rattle.model.proofs.TestLaws.{grouped}
 use Rattle.model.proofs.QuietLaws.{quiet-write, quiet-read}
 
 -- ---- redraws
-
--- nothing is drawn where no word changes
-pub drawn-idle : (f g : ℕ → ℕ) (l : List ℕ) → ((j : ℕ) → f j ≡ g j) → Redraws true f g l 0 l
-drawn-idle f g l h =
-    let z = part-all f g (length l) l 0 l (le-refl (length l)) (part-idle f g 0 (length l) l (λ j u v k. h j)) in
-    record { picture = z .0; count = z .1 }
 
 pub redraws-by : (t u : Bool) (f g : ℕ → ℕ) (l : List ℕ) (r : ℕ) (k : List ℕ) → t ≡ u → Redraws t f g l r k → Redraws u f g l r k
 redraws-by t u f g l r k e d = subst (λ (b : Bool). Redraws b f g l r k) e d
@@ -54,7 +49,7 @@ redraws-by t u f g l r k e d = subst (λ (b : Bool). Redraws b f g l r k) e d
 pub shown : (t : Bool) (f g : ℕ → ℕ) (l : List ℕ) (r : ℕ) (k : List ℕ) → (t ≡ false → (j : ℕ) → f j ≡ g j) → Redraws t f g l r k → Redraws true f g l r k
 shown true f g l r k h d = d
 shown false f g l r k h d =
-    let z = drawn-idle f g l (h refl) in
+    let z = still-redraws true f g l (h refl) in
     record { picture = d .picture ∙ z .picture; count = d .count ∙ z .count }
 
 -- ---- a new state settled
@@ -97,7 +92,7 @@ pub read : (s : State) (a : Access) (m l : List ℕ) (r : Answer) (w k : ℕ)
     → r ≡ answered 0 w k 0 (stateWith (readEffect a (placeOf a)) s) → Gives (settled s m l (stateWith (readEffect a (placeOf a)) s) m w k) r m l
 read s a m l r w k e =
     subst (λ (x : Answer). Gives (settled s m l (stateWith (readEffect a (placeOf a)) s) m w k) x m l) (sym e)
-    (settles s m l (stateWith (readEffect a (placeOf a)) s) m w k 0 l (drawn-idle _ _ l (quiet-read s a (placeOf a) m)))
+    (settles s m l (stateWith (readEffect a (placeOf a)) s) m w k 0 l (still-redraws true _ _ l (quiet-read s a (placeOf a) m)))
 
 -- ---- the definition of an access, opened
 
@@ -230,7 +225,7 @@ window-memory : (s : State) (a : Access) (i : ℕ) (m : List ℕ)
 unfolding memoryWith writeEffect
 window-memory s a i m = refl
 
-panel-of : (s : State) → sizesOk s ≡ true → panelOk (s .width) (s .height) ≡ true
+panel-of : (s : State) → sizesOk (s .width) (s .height) (s .fitted) (s .once) ≡ true → panelOk (s .width) (s .height) ≡ true
 unfolding sizesOk
 panel-of s e = and-first (panelOk (s .width) (s .height)) (memoryOk (s .fitted) && onceOk (s .once)) e
 
@@ -275,16 +270,31 @@ step-fits s m p a n en h =
     let one = not-false (isState s) (none-holds (accessLines s (length m) (length p) a) refl e 0) in
     let two = not-false (eqb (length m) (s .fitted) && eqb (length p) (s .width * s .height)) (none-holds (accessLines s (length m) (length p) a) refl e 1) in
     and-both (panelOk (s .width) (s .height)) (eqb (s .width) (s .width) && eqb (length p) (s .width * s .height))
-    (panel-of s (and-first (sizesOk s) _ (sym (grouped s) ∙ one)))
+    (panel-of s (and-first (sizesOk (s .width) (s .height) (s .fitted) (s .once)) _ (sym (grouped s) ∙ one)))
     (and-both (eqb (s .width) (s .width)) (eqb (length p) (s .width * s .height)) (eq-eqb (s .width) (s .width) refl)
     (and-second (eqb (length m) (s .fitted)) (eqb (length p) (s .width * s .height)) two))
 
--- what a read answers
-pub read-answer : (s : State) (a : Access) (m : List ℕ) (p : Place) (x : Seen) (w k : ℕ) (n : State)
-    → p ≡ placeOf a → x ≡ seenAt s m (a .offset) p → w ≡ wordIn x (a .enables) → k ≡ knownIn x (a .enables) → n ≡ stateWith (readEffect a p) s
-    → answered 0 w k 0 n
+-- what a read answers: the state with the palette's address as the read leaves it
+read-state : (s : State) (a : Access) (p : Place) → withDac s (dacAfter (s .dac) a p) (s .palette) ≡ stateWith (readEffect a p) s
+unfolding withDac dacAfter stateWith readEffect
+read-state s a (Register i) = refl
+read-state s a Address = refl
+read-state s a PaletteData = by-bit (bit 0 (a .enables))
+  where
+    by-bit : (t : Bool) → withDac s (pick t (afterPeek (s .dac)) (s .dac)) (s .palette) ≡ stateWith (pick t readComponent idle) s
+    by-bit true = refl
+    by-bit false = refl
+read-state s a IndexedData = refl
+read-state s a (Window i) = refl
+read-state s a (Config i) = refl
+read-state s a Blank = refl
+read-state s a Nowhere = refl
+
+pub read-answer : (s : State) (a : Access) (m : List ℕ) (p : Place) (x : Seen) (d : Dac) (w k : ℕ)
+    → p ≡ placeOf a → x ≡ seenAt s m (a .offset) p → d ≡ dacAfter (s .dac) a p → w ≡ wordIn x (a .enables) → k ≡ knownIn x (a .enables)
+    → answered 0 w k 0 (withDac s d (s .palette))
     ≡ answered 0 (wordIn (seenAt s m (a .offset) (placeOf a)) (a .enables)) (knownIn (seenAt s m (a .offset) (placeOf a)) (a .enables)) 0 (stateWith (readEffect a (placeOf a)) s)
-read-answer s a m p x w k n ep ex ew ek en =
-    ap₂ (λ (y z : ℕ). answered 0 y z 0 n) ew ek
-    ∙ ap₂ (λ (y : Seen) (z : State). answered 0 (wordIn y (a .enables)) (knownIn y (a .enables)) 0 z) ex en
+read-answer s a m p x d w k ep ex ed ew ek =
+    ap₂ (λ (y z : ℕ). answered 0 y z 0 (withDac s d (s .palette))) ew ek
+    ∙ ap₂ (λ (y : Seen) (z : State). answered 0 (wordIn y (a .enables)) (knownIn y (a .enables)) 0 z) ex (ap (λ (y : Dac). withDac s y (s .palette)) ed ∙ read-state s a p)
     ∙ ap (λ (q : Place). answered 0 (wordIn (seenAt s m (a .offset) q) (a .enables)) (knownIn (seenAt s m (a .offset) q) (a .enables)) 0 (stateWith (readEffect a q) s)) ep

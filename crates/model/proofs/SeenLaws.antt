@@ -1,11 +1,11 @@
 -- A table past its end, and what a read sees, put together from its two words.
 -- By induction on the list, and field by field. Assumes nothing.
 use Prim.Native.Nat.{ℕ, zero, suc, _≤_}
-use mathlib.Core.List.{List, [], _∷_, map}
-use mathlib.Core.Path.{_≡_, refl, sym, ap, ap₂, _∙_}
+use mathlib.Core.List.{List, [], _∷_}
+use mathlib.Core.Path.{_≡_, refl, ap, ap₂, _∙_}
 use native.Mathlib.Nat.{le-of-suc-le-suc}
 use native.Mathlib.Omega.{arith}
-use lib.ListN.{getD, length, length-map}
+use lib.ListN.{getD, length}
 use Rattle.chip.specs.declared.State.{State}
 use Rattle.chip.specs.declared.Seen.{Seen}
 use Rattle.chip.specs.declared.Place.the-variants.{Register, Window}
@@ -18,9 +18,8 @@ getD-past [] i h = refl
 getD-past (x ∷ l) zero h = absurd (omega arith)
 getD-past (x ∷ l) (suc i) h = getD-past l i (le-of-suc-le-suc h)
 
--- a list of a state's is as long as its type says, which is told of it through an idle map
-pub past : (l : List ℕ) (n i : ℕ) → length (map (λ (v : ℕ). v) l) ≡ n → n ≤ i → 0 ≡ getD l i 0
-past l n i e h = getD-past l i (let z : length l ≡ n = sym (length-map l (λ (v : ℕ). v)) ∙ e in omega arith)
+pub past : (l : List ℕ) (n i : ℕ) → length l ≡ n → n ≤ i → 0 ≡ getD l i 0
+past l n i e h = getD-past l i (omega arith)
 
 -- ---- what a read sees
 

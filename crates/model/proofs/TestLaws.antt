@@ -142,9 +142,25 @@ nine true true false d false r = refl
 nine true true true false false r = refl
 nine true true true true false r = refl
 
-pub grouped : (s : State) → isState s ≡ (sizesOk s && ((componentOk (s .dac) && addressOk (s .dac)) && tablesOk s))
+pub grouped : (s : State) → isState s ≡ (sizesOk (s .width) (s .height) (s .fitted) (s .once) && ((componentOk (s .dac) && addressOk (s .dac)) && tablesOk s))
 unfolding isState sizesOk tablesOk
 grouped s =
     nine (panelOk (s .width) (s .height)) (memoryOk (s .fitted)) (componentOk (s .dac)) (addressOk (s .dac)) (onceOk (s .once)) _
-    ∙ ap (λ (t : Bool). sizesOk s && ((componentOk (s .dac) && addressOk (s .dac)) && (regionSound (s .values) (s .knowns) && (headerSound (s .once) (s .header) && (indirectSound (s .indirect) && t)))))
+    ∙ ap (λ (t : Bool). sizesOk (s .width) (s .height) (s .fitted) (s .once) && ((componentOk (s .dac) && addressOk (s .dac)) && (regionSound (s .values) (s .knowns) && (headerSound (s .once) (s .header) && (indirectSound (s .indirect) && t)))))
     (and-true (paletteOk (s .palette)))
+
+-- .. and as the code joins them
+six : (a b c d e f : Bool) → (((((a && b) && c) && d) && e) && f) ≡ (a && (b && (c && (d && (e && f)))))
+six false b c d e f = refl
+six true false c d e f = refl
+six true true false d e f = refl
+six true true true false e f = refl
+six true true true true false f = refl
+six true true true true true f = refl
+
+pub all-tests : (s : State) (a b c d e f : Bool) → a ≡ sizesOk (s .width) (s .height) (s .fitted) (s .once) → b ≡ (componentOk (s .dac) && addressOk (s .dac))
+    → c ≡ regionSound (s .values) (s .knowns) → d ≡ headerSound (s .once) (s .header) → e ≡ indirectSound (s .indirect) → f ≡ paletteOk (s .palette)
+    → (((((a && b) && c) && d) && e) && f) ≡ isState s
+unfolding tablesOk
+all-tests s a b c d e f p q u v w x =
+    six a b c d e f ∙ ap₂ _&&_ p (ap₂ _&&_ q (ap₂ _&&_ u (ap₂ _&&_ v (ap₂ _&&_ w x)))) ∙ sym (grouped s)

@@ -24,10 +24,10 @@ use Rattle.chip.specs.Step.{Gives, answered, settled}
 use Rattle.chip.proofs.Redraw.{redrawn-length, redrawn-at, diffs-le}
 use Rattle.picture.specs.Draw.{fits, Redraws}
 use Rattle.picture.specs.Poke.{Pokes}
-use Rattle.picture.proofs.Parts.{diffs-add}
+use Rattle.picture.proofs.Parts.{diffs-add, still-redraws}
 use Rattle.picture.proofs.FitLaws.{panel-product, fit-panel, fit-size}
 use Rattle.model.specs.Lanes.{laneIn, LaneIn}
-use Rattle.model.proofs.DoneLaws.{drawn-idle, redraws-by, settles}
+use Rattle.model.proofs.DoneLaws.{redraws-by, settles}
 
 -- ---- one lane
 
@@ -50,7 +50,7 @@ module _ (s : State) (control : ℕ) (a : Access) (i : ℕ) (m p : List ℕ) (t 
       }
 
   pub lane-no : t ≡ false → LaneIn s control a i m p 0 m p
-  lane-no e = record { memory = lane-kept e; drawn = drawn-idle _ _ p (λ j. ap (λ (q : List ℕ). wordOf s q j) (lane-kept e)) }
+  lane-no e = record { memory = lane-kept e; drawn = still-redraws true _ _ p (λ j. ap (λ (q : List ℕ). wordOf s q j) (lane-kept e)) }
 
 pub lane-size : (s : State) (control : ℕ) (a : Access) (i : ℕ) (m p : List ℕ) (r : ℕ) (m′ p′ : List ℕ) → LaneIn s control a i m p r m′ p′ → length p′ ≡ length p
 lane-size s control a i m p r m′ p′ k = ap length (k .drawn .picture) ∙ redrawn-length _ _ p
@@ -131,7 +131,7 @@ pub record Sofar (s : State) (a : Access) (i : ℕ) (m p : List ℕ) (r : ℕ) (
   pub rest : (k : ℕ) → a .offset + i ≤ k → getD m′ k 0 ≡ getD m k 0
 
 pub sofar-none : (s : State) (a : Access) (m p : List ℕ) → Sofar s a 0 m p 0 m p
-sofar-none s a m p = record { drawn = drawn-idle _ _ p (λ j. refl); size = refl; rest = λ k h. refl }
+sofar-none s a m p = record { drawn = still-redraws true _ _ p (λ j. refl); size = refl; rest = λ k h. refl }
 
 pub sofar-few : (s : State) (a : Access) (i : ℕ) (m p : List ℕ) (r : ℕ) (m′ p′ : List ℕ) → Sofar s a i m p r m′ p′ → r ≤ length p
 sofar-few s a i m p r m′ p′ k = subst (λ (x : ℕ). x ≤ length p) (sym (k .drawn .count)) (diffs-le p _)

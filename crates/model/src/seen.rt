@@ -5,8 +5,7 @@ ghost use Rattle.chip.specs.declared.Place.the-variants.{Register, IndexedData,
 ghost use Rattle.chip.specs.Effect.{seenAt, knownIn, wordIn};
 use crate::held::header_value;
 use crate::held::index_value;
-use crate::held::known_at;
-use crate::held::value_at;
+use crate::held::row_of;
 use chip::Place;
 use chip::Seen;
 use chip::State;
@@ -14,9 +13,11 @@ use chip::State;
 fn seen_register(s: State, i: usize) -> Seen
     ensures { λ r. ⌜ r ≡ seenAt s [] 0 (Register i) ⌝ }
 {
+    let values = s.values;
+    let knowns = s.knowns;
     Seen {
-        value: value_at(s, i),
-        known: known_at(s, i),
+        value: row_of(values, i),
+        known: row_of(knowns, i),
     }
 }
 
@@ -24,8 +25,9 @@ fn seen_indexed(s: State) -> Seen
     ensures { λ r. ⌜ r ≡ seenAt s [] 0 IndexedData ⌝ }
 {
     let i = s.dac.address;
+    let indirect = s.indirect;
     Seen {
-        value: index_value(s, i) as u32,
+        value: index_value(indirect, i) as u32,
         known: registers::indirect::index_known(i) as u32,
     }
 }
@@ -33,8 +35,9 @@ fn seen_indexed(s: State) -> Seen
 fn seen_window<'a>(s: State, memory: &'a [u8], o: u32, i: usize) -> Seen
     ensures { λ r. ⌜ r ≡ seenAt s (now (memory .entry)) o (Window i) ⌝ }
 {
+    let values = s.values;
     Seen {
-        value: aperture::word_from(value_at(s, i), memory, o),
+        value: aperture::word_from(row_of(values, i), memory, o),
         known: 0xFFFFFFFF,
     }
 }
@@ -42,8 +45,9 @@ fn seen_window<'a>(s: State, memory: &'a [u8], o: u32, i: usize) -> Seen
 fn seen_config(s: State, i: usize) -> Seen
     ensures { λ r. ⌜ r ≡ seenAt s [] 0 (Config i) ⌝ }
 {
+    let header = s.header;
     Seen {
-        value: header_value(s, i),
+        value: header_value(header, i),
         known: registers::header::header_known(i),
     }
 }

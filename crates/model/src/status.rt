@@ -83,7 +83,8 @@ pub(crate) fn way_at(s: State, write: bool, p: Place) -> bool
 fn row_served(s: State, i: usize) -> bool
     ensures { λ r. ⌜ r ≡ served (getD (s .values) i 0) ⌝ }
 {
-    aperture::mode_served(crate::held::value_at(s, i))
+    let values = s.values;
+    aperture::mode_served(crate::held::row_of(values, i))
 }
 
 pub(crate) fn served_at(s: State, p: Place) -> bool

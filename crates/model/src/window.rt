@@ -45,7 +45,8 @@ pub(crate) fn write_window(
     requires { ⌜ fits s s (length (now picture)) ≡ true ⌝ }
     ensures { λ r. ⌜ Gives (settled s (now (memory .entry)) (now (picture .entry)) s (putAll (now (memory .entry)) (putsOf (getD (s .values) row 0) (atByte (a .offset)) (a .enables) (a .word))) 0 0) r (now (memory .exit)) (now (picture .exit)) ⌝ }
 {
-    let control = crate::held::value_at(s, row);
+    let values = s.values;
+    let control = crate::held::row_of(values, row);
     let n0 = write_lane(s, control, a, 0, memory, picture);
     let n1 = write_lane(s, control, a, 1, memory, picture);
     let n2 = write_lane(s, control, a, 2, memory, picture);

@@ -1,21 +1,15 @@
 // The state after a write at a place, and whether the picture may show it.
 ghost use mathlib.Core.Path.{_≡_};
-ghost use Rattle.chip.specs.declared.Place.the-variants.{Register, Address, PaletteData, IndexedData, Config};
-ghost use Rattle.chip.specs.Effect.{stateWith, readEffect, writeEffect};
-ghost use Rattle.model.specs.Parts.{rowShows, mayShow};
+ghost use Rattle.chip.specs.declared.Place.the-variants.{Address, PaletteData, IndexedData};
+ghost use Rattle.chip.specs.Effect.{stateWith, writeEffect};
+ghost use Rattle.model.specs.Parts.{dacAfter, rowShows, mayShow};
 use bits::bit_of;
 use bits::lane_byte;
 use bits::lanes_of;
 use chip::Access;
+use chip::Dac;
 use chip::Place;
 use chip::State;
-
-fn write_register(s: State, a: Access, i: usize) -> State
-    ensures { λ r. ⌜ r ≡ stateWith (writeEffect s a (Register i)) s ⌝ }
-{
-    let bits = registers::region::region_moved(i, lanes_of(a.enables), a.word);
-    registers::region::with_register(s, i, bits, registers::region::region_brought(i, a.word))
-}
 
 fn write_address(s: State, a: Access) -> State
     ensures { λ r. ⌜ r ≡ stateWith (writeEffect s a Address) s ⌝ }
@@ -45,57 +39,54 @@ fn write_indexed(s: State, a: Access) -> State
     registers::indirect::with_indirect(s, i, bits as u8, a.word)
 }
 
-fn write_config(s: State, a: Access, i: usize) -> State
-    ensures { λ r. ⌜ r ≡ stateWith (writeEffect s a (Config i)) s ⌝ }
-{
-    let bits = registers::header::header_moved(s.once, i, a.enables, a.word);
-    let once = registers::header::header_once(s.once, i, a.enables);
-    registers::header::with_header(
-        s,
-        i,
-        bits,
-        registers::header::header_brought(i, a.word),
-        once,
-    )
-}
-
 pub(crate) fn written_at(s: State, a: Access, p: Place) -> State
     ensures { λ r. ⌜ r ≡ stateWith (writeEffect s a p) s ⌝ }
 {
     match p {
-        Place::Register(i) => write_register(s, a, i),
+        Place::Register(i) => registers::region::with_register(
+            s,
+            i,
+            registers::region::region_moved(i, lanes_of(a.enables), a.word),
+            registers::region::region_brought(i, a.word),
+        ),
         Place::Address => write_address(s, a),
         Place::PaletteData => write_palette(s, a),
         Place::IndexedData => write_indexed(s, a),
         Place::Window(i) => s,
-        Place::Config(i) => write_config(s, a, i),
+        Place::Config(i) => registers::header::with_header(
+            s,
+            i,
+            registers::header::header_moved(s.once, i, a.enables, a.word),
+            registers::header::header_brought(i, a.word),
+            registers::header::header_once(s.once, i, a.enables),
+        ),
         Place::Blank => s,
         Place::Nowhere => s,
     }
 }
 
-fn peeked(s: State, a: Access) -> State
-    ensures { λ r. ⌜ r ≡ stateWith (readEffect a PaletteData) s ⌝ }
+fn dac_peeked(d: Dac, a: Access) -> Dac
+    ensures { λ r. ⌜ r ≡ dacAfter d a PaletteData ⌝ }
 {
     if bit_of(0, a.enables) {
-        return palette::entries::peeked(s);
+        return palette::dac::after_peek(d);
     }
-    s
+    d
 }
 
-// A read alters the palette's address, component and stage, and nothing else.
-pub(crate) fn read_at(s: State, a: Access, p: Place) -> State
-    ensures { λ r. ⌜ r ≡ stateWith (readEffect a p) s ⌝ }
+// A read alters the palette's address, component and stage, and nothing else: so the state is made anew once, where it is answered.
+pub(crate) fn dac_after(d: Dac, a: Access, p: Place) -> Dac
+    ensures { λ r. ⌜ r ≡ dacAfter d a p ⌝ }
 {
     match p {
-        Place::Register(i) => s,
-        Place::Address => s,
-        Place::PaletteData => peeked(s, a),
-        Place::IndexedData => s,
-        Place::Window(i) => s,
-        Place::Config(i) => s,
-        Place::Blank => s,
-        Place::Nowhere => s,
+        Place::Register(i) => d,
+        Place::Address => d,
+        Place::PaletteData => dac_peeked(d, a),
+        Place::IndexedData => d,
+        Place::Window(i) => d,
+        Place::Config(i) => d,
+        Place::Blank => d,
+        Place::Nowhere => d,
     }
 }
 

@@ -51,9 +51,6 @@ use Rattle.palette.proofs.entries.seen_palette.Kinds as seen-palette-ki
 use Rattle.palette.proofs.entries.aimed as aimed
 use Rattle.palette.proofs.entries.aimed.Reads as aimed-reads
 use Rattle.palette.proofs.entries.aimed.Kinds as aimed-kinds
-use Rattle.palette.proofs.entries.peeked as peeked
-use Rattle.palette.proofs.entries.peeked.Reads as peeked-reads
-use Rattle.palette.proofs.entries.peeked.Kinds as peeked-kinds
 use Rattle.palette.proofs.entries.painted as painted
 use Rattle.palette.proofs.entries.painted.Reads as painted-reads
 use Rattle.palette.proofs.entries.painted.Kinds as painted-kinds
@@ -132,11 +129,6 @@ pub aimed-one : (κs : Lfts 0) (a : ArgsD aimed.signature κs) (r r′ : ResD ai
     (x x′ : AtExit (kinds.endedOf 0 aimed-kinds.ps aimed-kinds.r) κs)
     → aimed-reads.Post κs a r x → aimed-reads.Post κs a r′ x′ → r ≡ r′
 aimed-one κs a r r′ x x′ p q = same-value p q
-
-pub peeked-one : (κs : Lfts 0) (a : ArgsD peeked.signature κs) (r r′ : ResD peeked.signature κs)
-    (x x′ : AtExit (kinds.endedOf 0 peeked-kinds.ps peeked-kinds.r) κs)
-    → peeked-reads.Post κs a r x → peeked-reads.Post κs a r′ x′ → r ≡ r′
-peeked-one κs a r r′ x x′ p q = same-value p q
 
 pub painted-one : (κs : Lfts 0) (a : ArgsD painted.signature κs) (r r′ : ResD painted.signature κs)
     (x x′ : AtExit (kinds.endedOf 0 painted-kinds.ps painted-kinds.r) κs)

@@ -1,6 +1,5 @@
 // The palette's entries, how a component is kept and shown, and the state after a palette access.
 use crate::dac::after_paint;
-use crate::dac::after_peek;
 use crate::dac::aimed_at;
 use crate::dac::completes;
 use bits::bit_of;
@@ -12,7 +11,7 @@ ghost use mathlib.Core.Path.{_≡_};
 ghost use mathlib.Core.List.{[]};
 ghost use lib.Dec.{eqb};
 ghost use Rattle.chip.specs.Palette.{entryOf, storeEntry, keptAs, shownAs, partOf, paletteOk};
-ghost use Rattle.chip.specs.Effect.{wide, seenAt, stateWith, setAddress, readComponent, wroteComponent};
+ghost use Rattle.chip.specs.Effect.{wide, seenAt, stateWith, setAddress, wroteComponent};
 ghost use Rattle.chip.specs.declared.Place.the-variants.{PaletteData};
 ghost use Rattle.palette.specs.Entry.{foundOf, entryFine};
 
@@ -147,17 +146,6 @@ pub fn aimed(s: State, v: u8) -> State
     let mut next = s;
     let d = aimed_at(v);
     next.dac = d;
-    next
-}
-
-// The state after a component was read.
-pub fn peeked(s: State) -> State
-    ensures { λ r. ⌜ r ≡ stateWith readComponent s ⌝ }
-{
-    let mut next = s;
-    let d = s.dac;
-    let n = after_peek(d);
-    next.dac = n;
     next
 }
 

@@ -19,11 +19,16 @@ use Rattle.chip.specs.Palette.{entryOf}
 use Rattle.chip.specs.Picture.{baseOf, strideOf, rowStart, dotByte, maskOf, notIndexed, unplaced, beyond, colourWord, dotEntry, underByte, underAt, laidAt, wordAt, wordOf, chosen}
 use Rattle.picture.specs.Draw.{fits, Redraws, Part, fixedOf}
 use Rattle.picture.specs.Poke.{Pokes, byteWord, rowByte, hits}
-use Rattle.picture.proofs.Parts.{part-idle, part-like, part-redraws, no-redraw}
+use Rattle.picture.proofs.Parts.{part-like, part-redraws, no-redraw, still-redraws}
 use Rattle.picture.proofs.ViewLaws.{rules}
 use Rattle.picture.proofs.TouchLaws.{hit, miss}
 
 -- ---- the word of a byte in memory
+
+-- a byte's word, put together by the code from the fixed word and the mask
+pub byte-word : (s : State) (v f k u r : ℕ) → f ≡ fixedOf s → k ≡ maskOf s → u ≡ v → r ≡ pick (eqb f 0) (colourWord (entryOf (s .palette) (inside u k))) f → r ≡ byteWord s v
+unfolding byteWord
+byte-word s v f k u r p q e h = simp (p, q, e) at h
 
 fitted : (s : State) (m : List ℕ) (at : ℕ) → at < length m → underByte s m (atByte at) ≡ byteWord s (getD m at 0)
 unfolding underByte beyond dotEntry byteWord fixedOf
@@ -61,11 +66,6 @@ module _ (s : State) (m : List ℕ) (at v j : ℕ) where
 -- equal words choose what stands there, whichever they are
 unchanged : (a b c d w : ℕ) → a ≡ b → c ≡ d → chosen a b w ≡ chosen c d w
 unchanged a b c d w p q = simp (eq-eqb a b p, eq-eqb c d q)
-
--- where no word changes
-still-redraws : (t : Bool) (f g : ℕ → ℕ) (l : List ℕ) → ((j : ℕ) → f j ≡ g j) → Redraws t f g l 0 l
-still-redraws t f g l h =
-    byTest t (λ e. part-redraws t f g (length l) l 0 l e (omega arith) (part-idle f g 0 (length l) l (λ j p q k. h j))) (λ e. no-redraw t f g l e)
 
 -- base and stride as a state has them
 pub as-placed : (s : State) (base stride : Units) (w at a b x y : ℕ) (l : List ℕ) (r : ℕ) (l′ : List ℕ) → base ≡ baseOf s → stride ≡ strideOf s

@@ -82,36 +82,39 @@ fn entry_row<'a>(
     n
 }
 
-// A row that lies alike in both layouts, by the tables: one byte is read for both words, and inside memory no dot asks where memory ends.
-fn same_row<'a>(
+// A row by the tables: as far as it lies inside memory in both layouts no dot asks where memory ends.
+fn both_row<'a>(
     past0: u32,
-    past1: u32,
-    row: usize,
+    row0: usize,
     t0: &'a [u32; 256],
+    past1: u32,
+    row1: usize,
     t1: &'a [u32; 256],
     first: usize,
     width: usize,
     memory: &'a [u8],
     picture: &mut [u32],
 ) -> u32
-    requires { ⌜ (first + width ≤ length (now picture)) × ((width ≤ 1024) × (row < 2 ^ 40)) ⌝ }
-    ensures { λ r. ⌜ RowDrawn (rowLook past0 row first (now (t0 .entry)) (now (memory .entry))) (rowLook past1 row first (now (t1 .entry)) (now (memory .entry))) first width (now (picture .entry)) r (now (picture .exit)) ⌝ }
+    requires { ⌜ (first + width ≤ length (now picture)) × ((width ≤ 1024) × ((row0 < 2 ^ 40) × (row1 < 2 ^ 40))) ⌝ }
+    ensures { λ r. ⌜ RowDrawn (rowLook past0 row0 first (now (t0 .entry)) (now (memory .entry))) (rowLook past1 row1 first (now (t1 .entry)) (now (memory .entry))) first width (now (picture .entry)) r (now (picture .exit)) ⌝ }
 {
-    let dots = inside(row, width, memory.len());
+    let one = inside(row0, width, memory.len());
+    let dots = inside(row1, one, memory.len());
     let mut n: u32 = 0;
     let mut x = 0;
     while x < dots {
-        let v = crate::dot::wide(memory[row + x]);
-        n += crate::dot::put(picture, first + x, t0[v], t1[v]);
+        let v = crate::dot::wide(memory[row0 + x]);
+        let w = crate::dot::wide(memory[row1 + x]);
+        n += crate::dot::put(picture, first + x, t0[v], t1[w]);
         x += 1;
     }
     n
         + crate::rows::draw_row(
             past0,
-            row + dots,
+            row0 + dots,
             t0,
             past1,
-            row + dots,
+            row1 + dots,
             t1,
             first + dots,
             width - dots,
@@ -167,10 +170,7 @@ pub(crate) fn some_row<'a>(
             picture,
         );
     }
-    if row0 == row1 {
-        return same_row(past0, past1, row0, t0, t1, first, width, memory, picture);
-    }
-    crate::rows::draw_row(
+    both_row(
         past0,
         row0,
         t0,

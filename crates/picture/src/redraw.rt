@@ -1,8 +1,10 @@
 // A redraw for a change of state: one pass over the panel, and nothing where panel and picture do not fit.
-ghost use mathlib.Core.Bool.{true};
+ghost use mathlib.Core.Bool.{true, false};
 ghost use mathlib.Core.Path.{_≡_};
 ghost use Prim.Native.Nat.{_*_};
+ghost use lib.Dec.{eqb};
 ghost use lib.ListN.{length};
+ghost use Rattle.bits.specs.Choose.{pick};
 ghost use Rattle.chip.specs.Sound.{panelOk};
 ghost use Rattle.chip.specs.Picture.{maskOf, wordOf};
 ghost use Rattle.picture.specs.Draw.{fits, Redraws, Part, fixedOf, pastOf, TableFrom};
@@ -87,10 +89,23 @@ fn redraw_fit<'a>(s: State, n: State, memory: &'a [u8], picture: &mut [u32]) -> 
     )
 }
 
+// One fixed word is every dot's before and after, as with the colour mode off.
+fn fixed_alike(a: u32, b: u32) -> bool
+    ensures { λ r. ⌜ r ≡ pick (eqb a 0) false (eqb a b) ⌝ }
+{
+    if a == 0 {
+        return false;
+    }
+    a == b
+}
+
 // The dots whose word differs between the two states take the new one; the number of words that changed.
 pub fn redraw<'a>(s: State, n: State, memory: &'a [u8], picture: &mut [u32]) -> u32
     ensures { λ r. ⌜ Redraws (fits s n (length (now (picture .entry)))) (wordOf s (now (memory .entry))) (wordOf n (now (memory .entry))) (now (picture .entry)) r (now (picture .exit)) ⌝ }
 {
+    if fixed_alike(fixed_of(s), fixed_of(n)) {
+        return 0;
+    }
     if both_fit(s, n, picture.len()) {
         return redraw_fit(s, n, memory, picture);
     }

@@ -1,19 +1,17 @@
 -- `model::access::access` is the step of the definition, whatever it is handed.
 -- Refused; read; written through an aperture; written elsewhere (DoneLaws). Assumes nothing.
+use mathlib.Core.Path.{refl}
 use denote.Ref.{now}
-use borrow.Author.Needs.{needs}
 use Rattle.model.proofs.DoneLaws.{first-window, second-window, step-refused, step-read, step-window, step-write, step-fits}
+use borrow.Author.Needs.{needs}
 use Rattle.model.proofs.access.access.Statement.{statement}
 use Rattle.model.proofs.access.access.Tie as tie
 
 status-of-requires : tie.Need-status-of-requires
 status-of-requires c κs = search needs
 
-refuse-requires : tie.Need-refuse-requires
-refuse-requires c κs = search needs
-
 returns : tie.Need-returns
-returns c = step-refused (c .before .before .before .before .before .args .s) (now (c .before .before .before .before .before .args .memory)) (now (c .before .before .before .before .before .args .picture)) (c .before .before .before .before .before .args .a) _ (c .before .before .status-of .ensures) _ (c .before .if1 .taken) (c .refuse .ensures)
+returns c = step-refused (c .before .before .before .before .args .s) (now (c .before .before .before .before .args .memory)) (now (c .before .before .before .before .args .picture)) (c .before .before .before .before .args .a) _ (c .before .status-of .ensures) _ (c .if1 .taken) refl
 
 read-state-requires : tie.Need-read-state-requires
 read-state-requires c κs = search needs
@@ -61,24 +59,4 @@ returns-5 : tie.Need-returns-5
 returns-5 c = step-write (c .before .before .before .before .before .before .before .before .before .before .before .before .before .before .before .args .s) (now (c .before .before .before .before .before .before .before .before .before .before .before .before .before .before .before .args .memory)) (now (c .before .before .before .before .before .before .before .before .before .before .before .before .before .before .before .args .picture)) (c .before .before .before .before .before .before .before .before .before .before .before .before .before .before .before .args .a) _ (c .before .before .before .before .before .before .before .before .before .before .before .before .status-of .ensures) _ _ (c .before .before .before .before .before .before .before .before .before .before .before .if1 .left) (c .before .before .before .before .before .before .before .before .before .if2 .left) (c .before .before .before .before .before .before .before .if3 .left) (c .before .before .before .before .before .if4 .left) (c .before .before .write-state .ensures)
 
 pub access-spec : {M : Type 1} → statement M
-access-spec =
-    tie.close
-    (tie.spec
-    status-of-requires
-    refuse-requires
-    returns
-    read-state-requires
-    same-length
-    returns-2
-    write-window-requires
-    same-length-2
-    same-length-3
-    returns-3
-    write-window-requires-2
-    same-length-4
-    same-length-5
-    returns-4
-    write-state-requires
-    same-length-6
-    same-length-7
-    returns-5)
+access-spec = tie.close (tie.spec status-of-requires returns read-state-requires same-length returns-2 write-window-requires same-length-2 same-length-3 returns-3 write-window-requires-2 same-length-4 same-length-5 returns-4 write-state-requires same-length-6 same-length-7 returns-5)

@@ -1,7 +1,9 @@
 -- `model::access::write_state` settles a write of state.
 -- Place, state and redraw (DoneLaws.wrote). Assumes nothing.
+use mathlib.Core.Path.{sym, _∙_}
+use Rattle.picture.proofs.Parts.{no-redraw}
+use Rattle.model.proofs.DoneLaws.{fits-after, redraws-by, wrote}
 use borrow.Author.Needs.{needs}
-use Rattle.model.proofs.DoneLaws.{fits-after, wrote}
 use Rattle.model.proofs.access.write_state.Statement.{statement}
 use Rattle.model.proofs.access.write_state.Tie as tie
 
@@ -14,22 +16,17 @@ written-at-requires c κs = search needs
 may-show-requires : tie.Need-may-show-requires
 may-show-requires c κs = search needs
 
-show-requires : tie.Need-show-requires
-show-requires c κs = fits-after _ _ _ _ (c .before .before .written-at .ensures) (c .before .before .before .before .before .before .pre)
+redraw-requires : tie.Need-redraw-requires
+redraw-requires c κs = search needs
 
 same-length : tie.Need-same-length
 same-length c = search needs
 
 returns : tie.Need-returns
-returns c = wrote _ _ _ _ _ _ _ _ _ (c .before .before .before .before .before .before .place-of .ensures) (c .before .before .before .before .before .written-at .ensures) (c .before .before .before .before .may-show .ensures) (c .before .before .show .ensures)
+returns c = wrote _ _ _ _ _ _ _ _ _ (c .before .before .before .before .before .before .before .place-of .ensures) (c .before .before .before .before .before .before .written-at .ensures) (c .before .before .before .before .before .may-show .ensures) (redraws-by _ _ _ _ _ _ _ (fits-after _ _ _ _ (c .before .before .before .before .before .before .written-at .ensures) (c .before .before .before .before .before .before .before .before .before .before .pre) ∙ sym (c .before .before .before .before .if1 .taken)) (c .before .before .redraw .ensures))
+
+returns-2 : tie.Need-returns-2
+returns-2 c = wrote _ _ _ _ _ _ _ _ _ (c .before .before .before .place-of .ensures) (c .before .before .written-at .ensures) (c .before .may-show .ensures) (no-redraw _ _ _ _ (c .if1 .left))
 
 pub write-state-spec : {M : Type 1} → statement M
-write-state-spec =
-    tie.close
-    (tie.spec
-    place-of-requires
-    written-at-requires
-    may-show-requires
-    show-requires
-    same-length
-    returns)
+write-state-spec = tie.close (tie.spec place-of-requires written-at-requires may-show-requires redraw-requires same-length returns returns-2)

@@ -1,8 +1,8 @@
 -- `model::seen::seen_config` is the definition at a header register.
 -- Its two words. Assumes nothing.
-use borrow.Author.Needs.{needs}
 use Rattle.chip.specs.Effect.{seenAt}
 use Rattle.model.proofs.SeenLaws.{seen-two}
+use borrow.Author.Needs.{needs}
 use Rattle.model.proofs.seen.seen_config.Statement.{statement}
 use Rattle.model.proofs.seen.seen_config.Tie as tie
 

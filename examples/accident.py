@@ -16,23 +16,7 @@ The sections named in comments are those of the Permedia 2 Hardware Reference
 Manual, issue 7.
 """
 
-from tracing import (
-    APERTURE_ONE,
-    CONFIGURATION,
-    PALETTE_DATA,
-    PALETTE_READ_ADDRESS,
-    PALETTE_WRITE_ADDRESS,
-    PIXEL_MASK,
-    REGION_ZERO,
-    dac,
-    dac_read,
-    finish,
-    indexed,
-    read,
-    step,
-    steps,
-    write,
-)
+from tracing import *
 
 WIDTH = 32  # dots, and bytes from row to row
 BACK, GREEN, YELLOW, RED, BAR = range(5)

@@ -14,24 +14,7 @@ Manual, issue 7.
 
 import sys
 
-from tracing import (
-    APERTURE_ONE,
-    APERTURE_TWO,
-    CONFIGURATION,
-    INDEXED_DATA,
-    PALETTE_DATA,
-    PALETTE_READ_ADDRESS,
-    PALETTE_WRITE_ADDRESS,
-    PIXEL_MASK,
-    REGION_ZERO,
-    dac,
-    dac_read,
-    finish,
-    indexed,
-    read,
-    step,
-    write,
-)
+from tracing import *
 
 WIDTH, HEIGHT, MEMORY = 320, 200, 65536
 

@@ -6,19 +6,28 @@
 #define ALL 0xFFFFFFFFu
 #define UNITS 0xFFFFFu /* ScreenBase and ScreenStride: bits 0 to 19 */
 
-/* ---- the tables (01, Region 0 and Configuration header; 000, 3.2 to 3.6 and 2.14) ---- */
+/* ---- the tables (01, Region 0, RAMDAC and Configuration header; 000, 3.2 to 3.6, table 5.2 and 2.14) ---- */
 
-/* what a write may change, by enum pm_row */
+/* what a write may change, by enum pm_row: region 0, the header, the indirect registers. Of 2Ch nothing is writable here: it has a rule of its own */
 static const uint32_t row_writable[PM_ROWS] = {
     0x3FB, 0x3FB, ALL, ALL, 0xFFFFFF, 0x0FFF0FFF, ALL, 0x3FFFFFFF, 0, 0, 0x10, 0x3FF, 0xFFFFE7FF, ALL, 0, 0, UNITS, UNITS, 0x7FF, 0x7FF, 0x7FF, 0x7FF,
-    0x7FF, 0x7FF, 0x7FF, 0x7FF, 0x7FF, 0x11E7F, 0x7FF, 0xE30C, 0, 0x1F1F, UNITS, 0xFF, 0xFF, 0xFF, 0xFF, 0xFF
+    0x7FF, 0x7FF, 0x7FF, 0x7FF, 0x7FF, 0x11E7F, 0x7FF, 0xE30C, 0, 0x1F1F, UNITS, 0xFF, 0xFF, 0xFF, 0xFF, 0xFF,
+    0, 0x6, 0, 0xFF00, 0xFFFE0000, 0xFF800000, 0xFF800000, 0, 0, 0xFFFF0001, 0, 0xFF, 0, 0, 0xFF000303, 0xE07FFFFF, ALL,
+    0x7F, 0xBF, 0x07, 0xFF, 0x3F, 0xFF, 0xFF, 0x0B, 0xFF, 0xFF, 0x0B, 0xFF, 0xFF, 0x0B, 0, 0xFF, 0xFF, 0x03, 0, 0x1F, 0xFF, 0xFF, 0xFF, 0xFF
 };
+#define STATUS_BITS 0x30000000u /* of 04h: cleared by writing one */
 static const uint32_t row_reset[PM_ROWS] = {
-    [PM_ROW_BOOT_ADDRESS] = 0x31, [PM_ROW_MEM_CONFIG] = 0x259FFFFF, [PM_ROW_PIXEL_MASK] = 0xFF
+    [PM_ROW_BOOT_ADDRESS] = 0x31, [PM_ROW_MEM_CONFIG] = 0x259FFFFF, [PM_ROW_PIXEL_MASK] = 0xFF, [PM_ROW_CFG_VENDOR_DEVICE] = 0x00073D3D,
+    [PM_ROW_CFG_COMMAND_STATUS] = 0x02800000, [PM_ROW_CFG_REVISION_CLASS] = 0x03800001, [PM_ROW_CFG_SUBSYSTEM] = 0x00073D3D,
+    [PM_ROW_CFG_INTERRUPT] = 0x100, [PM_ROW_RD_PIXEL_CLOCK_A1] = 0x1C, [PM_ROW_RD_PIXEL_CLOCK_A2] = 0x02, [PM_ROW_RD_PIXEL_CLOCK_A3] = 0x0B,
+    [PM_ROW_RD_PIXEL_CLOCK_B1] = 0x10, [PM_ROW_RD_PIXEL_CLOCK_B2] = 0x02, [PM_ROW_RD_PIXEL_CLOCK_B3] = 0x0B, [PM_ROW_RD_MEMORY_CLOCK_1] = 0x1C,
+    [PM_ROW_RD_MEMORY_CLOCK_2] = 0x02, [PM_ROW_RD_MEMORY_CLOCK_3] = 0x02
 };
 static const uint32_t row_known[PM_ROWS] = {
     ALL, ALL, ALL, ALL, ALL, ALL, 0, ALL, 0xFFFFFFFE, ALL, ALL, ALL, ALL, 0, 0, 0, ~UNITS, ~UNITS, ~0x7FFu, ~0x7FFu, ~0x7FFu, ~0x7FFu, ~0x7FFu, ~0x7FFu,
-    ~0x7FFu, ~0x7FFu, ~0x7FFu, 0xFFFE0000, ~0x7FFu, 0xFFFFE30C, ~0x7FFu, 0xFFFEE0E0, ~UNITS, 0xFF, 0, 0, 0, 0
+    ~0x7FFu, ~0x7FFu, ~0x7FFu, 0xFFFE0000, ~0x7FFu, 0xFFFFE30C, ~0x7FFu, 0xFFFEE0E0, ~UNITS, 0xFF, 0, 0, 0, 0,
+    ALL, ALL, ALL, ALL, ALL, ALL, ALL, ALL, ALL, ALL, 0xFFFFFFBF, 0x3F3FFFFF, 0xFFEFFFFD, 0xE0FFFDFE, ALL, ALL, ALL,
+    0xFF, 0xFF, 0xFF, 0xFF, 0xFF, 0xFF, 0xFF, 0xFF, 0xFF, 0xFF, 0xFF, 0xFF, 0xFF, 0xFF, 0, 0xFF, 0xFF, 0xFF, 0, 0xFF, 0xFF, 0xFF, 0xFF, 0xFF
 };
 
 /* one more than the row, by an eighth of the offset: every offset of region 0 is a multiple of eight */
@@ -32,41 +41,25 @@ static const uint8_t row_at[ROW_OFFSETS] = {
     [0x4078 / 8] = 38
 };
 
-/* the header, by enum pm_header_row. Of 2Ch nothing is writable here: it has a rule of its own */
-static const uint32_t header_writable[PM_HEADER_ROWS] = {
-    0, 0x6, 0, 0xFF00, 0xFFFE0000, 0xFF800000, 0xFF800000, 0, 0, 0xFFFF0001, 0, 0xFF, 0, 0, 0xFF000303, 0xE07FFFFF, ALL
-};
-#define STATUS_BITS 0x30000000u /* of 04h: cleared by writing one */
-static const uint32_t header_reset[PM_HEADER_ROWS] = {
-    [PM_HEADER_VENDOR_DEVICE] = 0x00073D3D, [PM_HEADER_COMMAND_STATUS] = 0x02800000, [PM_HEADER_REVISION_CLASS] = 0x03800001,
-    [PM_HEADER_SUBSYSTEM] = 0x00073D3D, [PM_HEADER_INTERRUPT] = 0x100
-};
-static const uint32_t header_known[PM_HEADER_ROWS] = {
-    ALL, ALL, ALL, ALL, ALL, ALL, ALL, ALL, ALL, ALL, 0xFFFFFFBF, 0x3F3FFFFF, 0xFFEFFFFD, 0xE0FFFDFE, ALL, ALL, ALL
-};
+/* the header: one more than the row, by a quarter of the offset */
 static const uint8_t header_at[64] = {
-    [0x00 / 4] = 1, [0x04 / 4] = 2, [0x08 / 4] = 3, [0x0C / 4] = 4, [0x10 / 4] = 5, [0x14 / 4] = 6, [0x18 / 4] = 7, [0x28 / 4] = 8, [0x2C / 4] = 9,
-    [0x30 / 4] = 10, [0x34 / 4] = 11, [0x3C / 4] = 12, [0x40 / 4] = 13, [0x44 / 4] = 14, [0x48 / 4] = 15, [0xF8 / 4] = 16, [0xFC / 4] = 17
+    [0x00 / 4] = 39, [0x04 / 4] = 40, [0x08 / 4] = 41, [0x0C / 4] = 42, [0x10 / 4] = 43, [0x14 / 4] = 44, [0x18 / 4] = 45, [0x28 / 4] = 46, [0x2C / 4] = 47,
+    [0x30 / 4] = 48, [0x34 / 4] = 49, [0x3C / 4] = 50, [0x40 / 4] = 51, [0x44 / 4] = 52, [0x48 / 4] = 53, [0xF8 / 4] = 54, [0xFC / 4] = 55
 };
 
-/* the indirect registers by index (000, table 5.2 and 3.6) */
-#define COLOR_MODE 0x18
-#define MISC_CONTROL 0x1E
-static const uint8_t index_writable[PM_INDICES] = {
-    [0x06] = 0x7F, [0x18] = 0xBF, [0x19] = 0x07, [0x1C] = 0xFF, [0x1E] = 0x3F, [0x20] = 0xFF, [0x21] = 0xFF, [0x22] = 0x0B, [0x23] = 0xFF, [0x24] = 0xFF,
-    [0x25] = 0x0B, [0x26] = 0xFF, [0x27] = 0xFF, [0x28] = 0x0B, [0x30] = 0xFF, [0x31] = 0xFF, [0x32] = 0x03, [0x40] = 0x1F, [0x41] = 0xFF, [0x42] = 0xFF,
-    [0x43] = 0xFF, [0x44] = 0xFF
+/* the indirect registers (000, table 5.2 and 3.6): one more than the row, by the index */
+static const uint8_t index_at[256] = {
+    [0x06] = 56, [0x18] = 57, [0x19] = 58, [0x1C] = 59, [0x1E] = 60, [0x20] = 61, [0x21] = 62, [0x22] = 63, [0x23] = 64, [0x24] = 65, [0x25] = 66,
+    [0x26] = 67, [0x27] = 68, [0x28] = 69, [0x29] = 70, [0x30] = 71, [0x31] = 72, [0x32] = 73, [0x33] = 74, [0x40] = 75, [0x41] = 76, [0x42] = 77,
+    [0x43] = 78, [0x44] = 79
 };
-static const uint8_t index_reset[PM_INDICES] = {
-    [0x20] = 0x1C, [0x21] = 0x02, [0x22] = 0x0B, [0x23] = 0x10, [0x24] = 0x02, [0x25] = 0x0B, [0x30] = 0x1C, [0x31] = 0x02, [0x32] = 0x02
-};
-enum { ABSENT = 0, READ_WRITE, WRITE_ONLY, STATUS };
-static const uint8_t index_kind[PM_INDICES] = {
-    [0x06] = READ_WRITE, [0x18] = READ_WRITE, [0x19] = READ_WRITE, [0x1C] = READ_WRITE, [0x1E] = READ_WRITE, [0x20] = WRITE_ONLY, [0x21] = WRITE_ONLY,
-    [0x22] = WRITE_ONLY, [0x23] = WRITE_ONLY, [0x24] = WRITE_ONLY, [0x25] = WRITE_ONLY, [0x26] = WRITE_ONLY, [0x27] = WRITE_ONLY, [0x28] = WRITE_ONLY,
-    [0x29] = STATUS, [0x30] = WRITE_ONLY, [0x31] = WRITE_ONLY, [0x32] = WRITE_ONLY, [0x33] = STATUS, [0x40] = READ_WRITE, [0x41] = READ_WRITE,
-    [0x42] = READ_WRITE, [0x43] = READ_WRITE, [0x44] = READ_WRITE
-};
+
+/* the clocks' parameters are only written (01, RAMDAC), and two registers of region 0 only read */
+static int row_reads(unsigned row) {
+    return !(row >= PM_ROW_RD_PIXEL_CLOCK_A1 && row <= PM_ROW_RD_PIXEL_CLOCK_C3) && !(row >= PM_ROW_RD_MEMORY_CLOCK_1 && row <= PM_ROW_RD_MEMORY_CLOCK_3);
+}
+
+static int row_writes(unsigned row) { return row != PM_ROW_FRAMEBUFFER_WRITE_MASK && row != PM_ROW_COUNT; }
 
 static const uint32_t lanes_of[16] = {
     0x00000000, 0x000000FF, 0x0000FF00, 0x0000FFFF, 0x00FF0000, 0x00FF00FF, 0x00FFFF00, 0x00FFFFFF, 0xFF000000, 0xFF0000FF, 0xFF00FF00, 0xFF00FFFF,
@@ -87,17 +80,12 @@ static int is_state(const struct pm_state *s) {
     if (s->dac.component > 2 || (s->dac.address & ~s->dac.known) != 0) return 0;
     uint32_t bad = 0;
     for (unsigned i = 0; i < PM_ROWS; i++) {
-        uint32_t v = s->values[i], k = s->knowns[i];
-        bad |= (((v ^ row_reset[i]) | (k ^ row_known[i])) & ~row_writable[i]) | ((v | row_known[i]) & ~k);
-    }
-    for (unsigned i = 0; i < PM_HEADER_ROWS; i++) {
-        uint32_t may = header_writable[i];
-        if (i == PM_HEADER_COMMAND_STATUS) may |= STATUS_BITS;
-        if (i == PM_HEADER_SUBSYSTEM) may = half_bits(s->once);
-        bad |= (s->header[i] ^ header_reset[i]) & ~may;
+        uint32_t v = s->values[i], k = s->knowns[i], may = row_writable[i];
+        if (i == PM_ROW_CFG_COMMAND_STATUS) may |= STATUS_BITS;
+        if (i == PM_ROW_CFG_SUBSYSTEM) may = half_bits(s->once);
+        bad |= (((v ^ row_reset[i]) | (k ^ row_known[i])) & ~may) | ((v | row_known[i]) & ~k);
     }
     uint8_t bad_bytes = 0;
-    for (unsigned i = 0; i < PM_INDICES; i++) bad_bytes |= (uint8_t)((s->indirect[i] ^ index_reset[i]) & ~index_writable[i]);
     const struct pm_palette *p = &s->palette;
     for (unsigned i = 0; i < PM_ENTRIES; i++) {
         uint8_t flag = p->stored[i];
@@ -121,7 +109,7 @@ static struct view view_of(const struct pm_state *s) {
     v.stride = (uint64_t)(s->values[PM_ROW_SCREEN_STRIDE] & UNITS) * 8;
     v.mask = (uint8_t)s->values[PM_ROW_PIXEL_MASK];
     v.fixed = 0;
-    if ((s->indirect[COLOR_MODE] & 0x1F) != 0x10)
+    if ((s->values[PM_ROW_RD_COLOR_MODE] & 0x1F) != 0x10)
         v.fixed = PM_DOT_OFF;
     else if ((s->knowns[PM_ROW_SCREEN_BASE] & s->knowns[PM_ROW_SCREEN_STRIDE] & UNITS) != UNITS || (s->knowns[PM_ROW_PIXEL_MASK] & 0xFF) != 0xFF)
         v.fixed = PM_DOT_UNPLACED;
@@ -288,26 +276,35 @@ static struct plain_answer window(struct pm_state *s, const struct pm_access *a,
     return seen(read_memory(a->offset, swap, memory), ALL, a->enables);
 }
 
-static struct plain_answer header(struct pm_state *s, const struct pm_access *a) {
-    if (a->offset > 0xFC) return refused(PM_NOTHING_HERE);
-    unsigned row = header_at[a->offset / 4];
-    if (row == 0) return a->write ? written(0) : seen(0, ALL, a->enables);
-    row--;
-    if (!a->write) return seen(s->header[row], header_known[row], a->enables);
-    uint32_t bits = header_writable[row], word = a->word;
-    if (row == PM_HEADER_SUBSYSTEM) { /* D-17: a half is fixed by the first write with both of its lanes */
+/* any register of the bank */
+static struct plain_answer register_at(struct pm_state *s, const struct pm_access *a, unsigned row, const uint8_t *memory, uint32_t *picture) {
+    if (!(a->write ? row_writes(row) : row_reads(row))) return refused(PM_NO_DIRECTION);
+    if (!a->write) return seen(s->values[row], s->knowns[row], a->enables);
+    uint32_t bits = row_writable[row], word = a->word;
+    if (row == PM_ROW_CFG_SUBSYSTEM) { /* D-17: a half is fixed by the first write with both of its lanes */
         uint32_t halves = ((a->enables & 3) == 3 ? 1u : 0u) | ((a->enables & 12) == 12 ? 2u : 0u);
         bits = half_bits(halves & ~s->once);
         s->once |= halves;
     } else {
-        if (row == PM_HEADER_COMMAND_STATUS) {
+        if (row == PM_ROW_CFG_COMMAND_STATUS) {
             bits |= STATUS_BITS & word;
             word &= ~STATUS_BITS;
         }
         bits &= lanes_of[a->enables];
     }
-    s->header[row] = (s->header[row] & ~bits) | (word & bits);
-    return written(0);
+    int shows = row == PM_ROW_SCREEN_BASE || row == PM_ROW_SCREEN_STRIDE || row == PM_ROW_PIXEL_MASK || row == PM_ROW_RD_COLOR_MODE;
+    struct view from = { 0 };
+    if (shows) from = view_of(s);
+    s->values[row] = (s->values[row] & ~bits) | (word & bits);
+    s->knowns[row] |= bits;
+    return written(shows ? redraw(s, from, view_of(s), memory, picture) : 0);
+}
+
+static struct plain_answer header(struct pm_state *s, const struct pm_access *a, const uint8_t *memory, uint32_t *picture) {
+    if (a->offset > 0xFC) return refused(PM_NOTHING_HERE);
+    unsigned row = header_at[a->offset / 4];
+    if (row == 0) return a->write ? written(0) : seen(0, ALL, a->enables);
+    return register_at(s, a, row - 1, memory, picture);
 }
 
 /* every palette data access advances the component, and after 2 the address */
@@ -327,7 +324,7 @@ static struct plain_answer palette_data(struct pm_state *s, const struct pm_acce
     struct pm_dac *d = &s->dac;
     struct pm_palette *p = &s->palette;
     if (d->known != 0xFF) return refused(PM_NOTHING_HERE);
-    int lane = a->enables & 1, wide = s->indirect[MISC_CONTROL] & 2;
+    int lane = a->enables & 1, wide = s->values[PM_ROW_RD_MISC_CONTROL] & 2;
     unsigned e = d->address;
     if (!a->write) {
         if (!lane) return seen(0, 0, a->enables);
@@ -359,21 +356,9 @@ static struct plain_answer palette_data(struct pm_state *s, const struct pm_acce
 
 static struct plain_answer indexed_data(struct pm_state *s, const struct pm_access *a, const uint8_t *memory, uint32_t *picture) {
     if (s->dac.known != 0xFF) return refused(PM_NOTHING_HERE);
-    unsigned i = s->dac.address, kind = index_kind[i];
-    if (kind == ABSENT) return refused(PM_NOTHING_HERE);
-    if (!a->write) {
-        if (kind == WRITE_ONLY) return refused(PM_NO_DIRECTION);
-        return seen(s->indirect[i], kind == STATUS ? 0 : 0xFF, a->enables);
-    }
-    uint8_t bits = (uint8_t)(index_writable[i] & lanes_of[a->enables]);
-    uint8_t next = (uint8_t)((s->indirect[i] & ~bits) | (a->word & bits));
-    if (i != COLOR_MODE) {
-        s->indirect[i] = next;
-        return written(0);
-    }
-    struct view from = view_of(s);
-    s->indirect[i] = next;
-    return written(redraw(s, from, view_of(s), memory, picture));
+    unsigned row = index_at[s->dac.address];
+    if (row == 0) return refused(PM_NOTHING_HERE);
+    return register_at(s, a, row - 1, memory, picture);
 }
 
 static struct plain_answer region(struct pm_state *s, const struct pm_access *a, const uint8_t *memory, uint32_t *picture) {
@@ -388,16 +373,7 @@ static struct plain_answer region(struct pm_state *s, const struct pm_access *a,
     }
     unsigned row = a->offset % 8 == 0 && a->offset / 8 < ROW_OFFSETS ? row_at[a->offset / 8] : 0;
     if (row == 0) return refused(PM_NOTHING_HERE);
-    row--;
-    if (!a->write) return seen(s->values[row], s->knowns[row], a->enables);
-    if (row == PM_ROW_FRAMEBUFFER_WRITE_MASK || row == PM_ROW_COUNT) return refused(PM_NO_DIRECTION);
-    uint32_t bits = row_writable[row] & lanes_of[a->enables];
-    int shows = row == PM_ROW_SCREEN_BASE || row == PM_ROW_SCREEN_STRIDE || row == PM_ROW_PIXEL_MASK;
-    struct view from = { 0 };
-    if (shows) from = view_of(s);
-    s->values[row] = (s->values[row] & ~bits) | (a->word & bits);
-    s->knowns[row] |= bits;
-    return written(shows ? redraw(s, from, view_of(s), memory, picture) : 0);
+    return register_at(s, a, row - 1, memory, picture);
 }
 
 struct plain_answer plain_access(struct pm_state *s, const struct pm_access *a, uint8_t *memory, size_t memory_length, uint32_t *picture,
@@ -410,7 +386,7 @@ struct plain_answer plain_access(struct pm_state *s, const struct pm_access *a, 
     case PM_REGION_0: return region(s, a, memory, picture);
     case PM_APERTURE_ONE: return window(s, a, s->values[PM_ROW_APERTURE_ONE], memory, picture);
     case PM_APERTURE_TWO: return window(s, a, s->values[PM_ROW_APERTURE_TWO], memory, picture);
-    default: return header(s, a);
+    default: return header(s, a, memory, picture);
     }
 }
 
@@ -423,8 +399,6 @@ static void reset(struct pm_state *s, uint32_t width, uint32_t height, uint32_t 
     s->fitted = fitted;
     memcpy(s->values, row_reset, sizeof s->values);
     memcpy(s->knowns, row_known, sizeof s->knowns);
-    memcpy(s->header, header_reset, sizeof s->header);
-    memcpy(s->indirect, index_reset, sizeof s->indirect);
 }
 
 uint32_t plain_open(struct pm_state *s, uint32_t width, uint32_t height, uint8_t *memory, size_t memory_length, uint32_t *picture, size_t picture_length) {

@@ -11,7 +11,7 @@
  *  - memory points to memory_length bytes and picture to picture_length words that can be read and written. A pointer is never null, also where
  *    its length is 0, and picture is aligned for uint32_t;
  *  - memory and picture do not overlap, and nobody else writes them, or the state, during a call.
- * Any state and any access may be handed in: a state that is none is refused as 1.
+ * Any state and any access may be handed in: what is not a state is refused as 1.
  *
  * Numbers such as 4000h in this file are offsets in the manual (Permedia 2 Hardware Reference, issue 7); 3.4.1 is a section of it. */
 #ifndef REEFSTENCIL_H
@@ -31,11 +31,11 @@ extern "C" {
 
 /* ---- the status of an answer ---- */
 
-/* An access is tested in the order 1 to 7, an opening in the order 8, 9, 2. A refusal alters nothing, and its answer is zeros with the state as
- * it was handed in. */
+/* An access is tested in the order 1 to 7, an opening in the order 8, 9, 2. A refused access alters nothing, and its answer is zeros with the
+ * state as it was handed in; a refused opening leaves both buffers, and gives a state of 0 by 0 dots. */
 enum pm_status {
     PM_DONE = 0,
-    PM_NO_STATE = 1,      /* the state is none */
+    PM_NO_STATE = 1,      /* not a state */
     PM_WRONG_LENGTH = 2,  /* a lent buffer has the wrong length */
     PM_BAD_FORM = 3,      /* target above 3, or enables above 15 */
     PM_UNALIGNED = 4,     /* the offset is no multiple of four */
@@ -67,13 +67,12 @@ struct pm_access {
 
 /* A state comes from pm_open or from an answer. Its fields may be read and stored; a C program has no need to write them. */
 
-#define PM_ROWS 38u        /* registers of region 0 */
-#define PM_HEADER_ROWS 17u /* registers of the header */
-#define PM_INDICES 256u    /* places for indirect registers */
-#define PM_ENTRIES 256u    /* palette entries */
+#define PM_ROWS 79u     /* registers: 38 of region 0, 17 of the header, 24 indirect ones */
+#define PM_ENTRIES 256u /* palette entries */
 
-/* Which element of values and knowns is which register of region 0, with its offset. */
+/* Which element of values and knowns is which register. */
 enum pm_row {
+    /* region 0, with its offset */
     PM_ROW_APERTURE_ONE = 0,            /* 0050h */
     PM_ROW_APERTURE_TWO = 1,            /* 0058h */
     PM_ROW_BY_DMA_ADDRESS = 2,          /* 00A0h */
@@ -111,28 +110,50 @@ enum pm_row {
     PM_ROW_CURSOR_X_LOW = 34,           /* 4060h */
     PM_ROW_CURSOR_X_HIGH = 35,          /* 4068h */
     PM_ROW_CURSOR_Y_LOW = 36,           /* 4070h */
-    PM_ROW_CURSOR_Y_HIGH = 37           /* 4078h */
-};
-
-/* Which element of header is which word of the configuration header, with its offset. */
-enum pm_header_row {
-    PM_HEADER_VENDOR_DEVICE = 0,     /* 00h */
-    PM_HEADER_COMMAND_STATUS = 1,    /* 04h */
-    PM_HEADER_REVISION_CLASS = 2,    /* 08h */
-    PM_HEADER_LATENCY = 3,           /* 0Ch: cache line, latency timer, header type, self test */
-    PM_HEADER_BASE_0 = 4,            /* 10h */
-    PM_HEADER_BASE_1 = 5,            /* 14h */
-    PM_HEADER_BASE_2 = 6,            /* 18h */
-    PM_HEADER_CARD_BUS = 7,          /* 28h */
-    PM_HEADER_SUBSYSTEM = 8,         /* 2Ch: vendor in bits 0 to 15, ID in 16 to 31 */
-    PM_HEADER_ROM_BASE = 9,          /* 30h */
-    PM_HEADER_CAPABILITY = 10,       /* 34h */
-    PM_HEADER_INTERRUPT = 11,        /* 3Ch: line, pin, minimum grant, maximum latency */
-    PM_HEADER_AGP_ID = 12,           /* 40h */
-    PM_HEADER_AGP_STATUS = 13,       /* 44h */
-    PM_HEADER_AGP_COMMAND = 14,      /* 48h */
-    PM_HEADER_INDIRECT_ADDRESS = 15, /* F8h */
-    PM_HEADER_INDIRECT_DATA = 16     /* FCh */
+    PM_ROW_CURSOR_Y_HIGH = 37,          /* 4078h */
+    /* the configuration header, with its offset */
+    PM_ROW_CFG_VENDOR_DEVICE = 38,      /* 00h */
+    PM_ROW_CFG_COMMAND_STATUS = 39,     /* 04h */
+    PM_ROW_CFG_REVISION_CLASS = 40,     /* 08h */
+    PM_ROW_CFG_LATENCY = 41,            /* 0Ch: cache line, latency timer, header type, self test */
+    PM_ROW_CFG_BASE_0 = 42,             /* 10h */
+    PM_ROW_CFG_BASE_1 = 43,             /* 14h */
+    PM_ROW_CFG_BASE_2 = 44,             /* 18h */
+    PM_ROW_CFG_CARD_BUS = 45,           /* 28h */
+    PM_ROW_CFG_SUBSYSTEM = 46,          /* 2Ch: vendor in bits 0 to 15, ID in 16 to 31 */
+    PM_ROW_CFG_ROM_BASE = 47,           /* 30h */
+    PM_ROW_CFG_CAPABILITY = 48,         /* 34h */
+    PM_ROW_CFG_INTERRUPT = 49,          /* 3Ch: line, pin, minimum grant, maximum latency */
+    PM_ROW_CFG_AGP_ID = 50,             /* 40h */
+    PM_ROW_CFG_AGP_STATUS = 51,         /* 44h */
+    PM_ROW_CFG_AGP_COMMAND = 52,        /* 48h */
+    PM_ROW_CFG_INDIRECT_ADDRESS = 53,   /* F8h */
+    PM_ROW_CFG_INDIRECT_DATA = 54,      /* FCh */
+    /* the RAMDAC's indirect registers, with their index */
+    PM_ROW_RD_CURSOR_CONTROL = 55,      /* 06h */
+    PM_ROW_RD_COLOR_MODE = 56,          /* 18h */
+    PM_ROW_RD_MODE_CONTROL = 57,        /* 19h */
+    PM_ROW_RD_PALETTE_PAGE = 58,        /* 1Ch */
+    PM_ROW_RD_MISC_CONTROL = 59,        /* 1Eh */
+    PM_ROW_RD_PIXEL_CLOCK_A1 = 60,      /* 20h */
+    PM_ROW_RD_PIXEL_CLOCK_A2 = 61,      /* 21h */
+    PM_ROW_RD_PIXEL_CLOCK_A3 = 62,      /* 22h */
+    PM_ROW_RD_PIXEL_CLOCK_B1 = 63,      /* 23h */
+    PM_ROW_RD_PIXEL_CLOCK_B2 = 64,      /* 24h */
+    PM_ROW_RD_PIXEL_CLOCK_B3 = 65,      /* 25h */
+    PM_ROW_RD_PIXEL_CLOCK_C1 = 66,      /* 26h */
+    PM_ROW_RD_PIXEL_CLOCK_C2 = 67,      /* 27h */
+    PM_ROW_RD_PIXEL_CLOCK_C3 = 68,      /* 28h */
+    PM_ROW_RD_PIXEL_CLOCK_STATUS = 69,  /* 29h */
+    PM_ROW_RD_MEMORY_CLOCK_1 = 70,      /* 30h */
+    PM_ROW_RD_MEMORY_CLOCK_2 = 71,      /* 31h */
+    PM_ROW_RD_MEMORY_CLOCK_3 = 72,      /* 32h */
+    PM_ROW_RD_MEMORY_CLOCK_STATUS = 73, /* 33h */
+    PM_ROW_RD_COLOR_KEY_CONTROL = 74,   /* 40h */
+    PM_ROW_RD_OVERLAY_KEY = 75,         /* 41h */
+    PM_ROW_RD_RED_KEY = 76,             /* 42h */
+    PM_ROW_RD_GREEN_KEY = 77,           /* 43h */
+    PM_ROW_RD_BLUE_KEY = 78             /* 44h */
 };
 
 /* The RAMDAC's one address, which serves palette reads, palette writes and the index, with what hangs on it. */
@@ -158,10 +179,8 @@ struct pm_state {
     uint32_t height;
     uint32_t fitted;        /* .. and the length of memory in bytes */
     uint32_t once;          /* write-once numbers that are fixed: bit 0 the subsystem vendor, bit 1 the subsystem ID */
-    uint32_t values[38];    /* region 0: what each register holds, by enum pm_row; 0 wherever it is unknown .. */
-    uint32_t knowns[38];    /* .. and which of its bits are known */
-    uint32_t header[17];    /* the configuration header, by enum pm_header_row */
-    uint8_t indirect[256];  /* the RAMDAC's indirect registers, by their index; 0 where there is none */
+    uint32_t values[79];    /* what each register holds, by enum pm_row; 0 wherever it is unknown .. */
+    uint32_t knowns[79];    /* .. and which of its bits are known */
     struct pm_dac dac;
     struct pm_palette palette; /* starts two bytes before a multiple of four: it is bytes only */
     /* two bytes follow that mean nothing and may differ in equal states: compare fields, not bytes */
@@ -226,26 +245,24 @@ PM_ASSERT(offsetof(struct pm_palette, green) == 256);
 PM_ASSERT(offsetof(struct pm_palette, blue) == 512);
 PM_ASSERT(offsetof(struct pm_palette, stored) == 768);
 
-PM_ASSERT(sizeof(struct pm_state) == 1676 && PM_ALIGN(struct pm_state) == 4);
+PM_ASSERT(sizeof(struct pm_state) == 1680 && PM_ALIGN(struct pm_state) == 4);
 PM_ASSERT(offsetof(struct pm_state, width) == 0);
 PM_ASSERT(offsetof(struct pm_state, height) == 4);
 PM_ASSERT(offsetof(struct pm_state, fitted) == 8);
 PM_ASSERT(offsetof(struct pm_state, once) == 12);
 PM_ASSERT(offsetof(struct pm_state, values) == 16);
-PM_ASSERT(offsetof(struct pm_state, knowns) == 168);
-PM_ASSERT(offsetof(struct pm_state, header) == 320);
-PM_ASSERT(offsetof(struct pm_state, indirect) == 388);
-PM_ASSERT(offsetof(struct pm_state, dac) == 644);
-PM_ASSERT(offsetof(struct pm_state, palette) == 650);
+PM_ASSERT(offsetof(struct pm_state, knowns) == 332);
+PM_ASSERT(offsetof(struct pm_state, dac) == 648);
+PM_ASSERT(offsetof(struct pm_state, palette) == 654);
 
-PM_ASSERT(sizeof(struct pm_answer) == 1692 && PM_ALIGN(struct pm_answer) == 4);
+PM_ASSERT(sizeof(struct pm_answer) == 1696 && PM_ALIGN(struct pm_answer) == 4);
 PM_ASSERT(offsetof(struct pm_answer, status) == 0);
 PM_ASSERT(offsetof(struct pm_answer, word) == 4);
 PM_ASSERT(offsetof(struct pm_answer, known) == 8);
 PM_ASSERT(offsetof(struct pm_answer, changed) == 12);
 PM_ASSERT(offsetof(struct pm_answer, state) == 16);
 
-PM_ASSERT(sizeof(struct pm_opened) == 1680 && PM_ALIGN(struct pm_opened) == 4);
+PM_ASSERT(sizeof(struct pm_opened) == 1684 && PM_ALIGN(struct pm_opened) == 4);
 PM_ASSERT(offsetof(struct pm_opened, status) == 0);
 PM_ASSERT(offsetof(struct pm_opened, state) == 4);
 

@@ -10,7 +10,7 @@
 /* crates/layout, which is proved to make and to take apart each struct by its fields' names */
 struct pm_access made_access(uint32_t target, uint32_t offset, uint32_t write, uint32_t enables, uint32_t word);
 struct pm_state made_state(uint32_t width, uint32_t height, uint32_t fitted, uint32_t once, const uint32_t *values, const uint32_t *knowns,
-    const uint32_t *header, const uint8_t *indirect, uint8_t address, uint8_t known, uint8_t component, uint8_t staged, uint8_t staged_red,
+    uint8_t address, uint8_t known, uint8_t component, uint8_t staged, uint8_t staged_red,
     uint8_t staged_green, const uint8_t *red, const uint8_t *green, const uint8_t *blue, const uint8_t *stored);
 struct pm_answer made_answer(uint32_t status, uint32_t word, uint32_t known, uint32_t changed, struct pm_state s);
 struct pm_opened made_opened(uint32_t status, struct pm_state s);
@@ -18,8 +18,6 @@ void parts_of_access(struct pm_access a, uint32_t *out);
 void sizes_of_state(struct pm_state s, uint32_t *out);
 void values_of_state(struct pm_state s, uint32_t *out);
 void knowns_of_state(struct pm_state s, uint32_t *out);
-void header_of_state(struct pm_state s, uint32_t *out);
-void indirect_of_state(struct pm_state s, uint8_t *out);
 void dac_of_state(struct pm_state s, uint8_t *out);
 void red_of_state(struct pm_state s, uint8_t *out);
 void green_of_state(struct pm_state s, uint8_t *out);
@@ -74,10 +72,8 @@ static struct pm_state written_state(unsigned from) {
     s.height = next_word();
     s.fitted = next_word();
     s.once = next_word();
-    fill_words(s.values, 38);
-    fill_words(s.knowns, 38);
-    fill_words(s.header, 17);
-    fill_bytes(s.indirect, 256);
+    fill_words(s.values, PM_ROWS);
+    fill_words(s.knowns, PM_ROWS);
     s.dac.address = next_byte();
     s.dac.known = next_byte();
     s.dac.component = next_byte();
@@ -97,10 +93,8 @@ static void read_state(const struct pm_state *s, unsigned from) {
     same("state.height", 0, s->height, next_word());
     same("state.fitted", 0, s->fitted, next_word());
     same("state.once", 0, s->once, next_word());
-    same_words("state.values", s->values, 38);
-    same_words("state.knowns", s->knowns, 38);
-    same_words("state.header", s->header, 17);
-    same_bytes("state.indirect", s->indirect, 256);
+    same_words("state.values", s->values, PM_ROWS);
+    same_words("state.knowns", s->knowns, PM_ROWS);
     same("state.dac.address", 0, s->dac.address, next_byte());
     same("state.dac.known", 0, s->dac.known, next_byte());
     same("state.dac.component", 0, s->dac.component, next_byte());
@@ -116,37 +110,31 @@ static void read_state(const struct pm_state *s, unsigned from) {
 /* ---- the same by the library: made from its parts, and taken apart ---- */
 
 static struct pm_state library_state(unsigned from) {
-    uint32_t sizes[4], values[38], knowns[38], header[17];
-    uint8_t indirect[256], dac[6], red[256], green[256], blue[256], stored[256];
+    uint32_t sizes[4], values[PM_ROWS], knowns[PM_ROWS];
+    uint8_t dac[6], red[256], green[256], blue[256], stored[256];
     place = from;
     fill_words(sizes, 4);
-    fill_words(values, 38);
-    fill_words(knowns, 38);
-    fill_words(header, 17);
-    fill_bytes(indirect, 256);
+    fill_words(values, PM_ROWS);
+    fill_words(knowns, PM_ROWS);
     fill_bytes(dac, 6);
     fill_bytes(red, 256);
     fill_bytes(green, 256);
     fill_bytes(blue, 256);
     fill_bytes(stored, 256);
-    return made_state(sizes[0], sizes[1], sizes[2], sizes[3], values, knowns, header, indirect, dac[0], dac[1], dac[2], dac[3], dac[4], dac[5], red,
+    return made_state(sizes[0], sizes[1], sizes[2], sizes[3], values, knowns, dac[0], dac[1], dac[2], dac[3], dac[4], dac[5], red,
         green, blue, stored);
 }
 
 static void library_reads_state(struct pm_state s, unsigned from) {
-    uint32_t words[38];
+    uint32_t words[PM_ROWS];
     uint8_t bytes[256];
     place = from;
     sizes_of_state(s, words);
     same_words("library: width, height, fitted, once", words, 4);
     values_of_state(s, words);
-    same_words("library: values", words, 38);
+    same_words("library: values", words, PM_ROWS);
     knowns_of_state(s, words);
-    same_words("library: knowns", words, 38);
-    header_of_state(s, words);
-    same_words("library: header", words, 17);
-    indirect_of_state(s, bytes);
-    same_bytes("library: indirect", bytes, 256);
+    same_words("library: knowns", words, PM_ROWS);
     dac_of_state(s, bytes);
     same_bytes("library: dac", bytes, 6);
     red_of_state(s, bytes);

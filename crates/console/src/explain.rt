@@ -1,15 +1,14 @@
 // One readable line for an access and its answer.
-use crate::names::say_header;
-use crate::names::say_indirect;
-use crate::names::say_region;
+use crate::names::say_row;
 use crate::say::say;
 use crate::say::say_hex;
 use crate::say::say_number;
 use crate::say::say_word;
+use chip::APERTURE_ONE;
 use chip::Access;
 use chip::Dac;
+use chip::INDIRECT_FIRST;
 use chip::Place;
-use registers::indirect::index_exists;
 use registers::place::place_of;
 use text::shown::word;
 
@@ -31,16 +30,21 @@ fn say_palette(dac: Dac) {
     }
 }
 
+// Indexed data go to the register at the address, where that is known.
 fn say_indexed(dac: Dac) {
     say(b"RDIndexedData");
     if dac.known == 255 {
         say(b" index ");
         say_hex(dac.address as u32);
-        if index_exists(dac.address) {
-            say(b" ");
-            say_indirect(dac.address);
-        }
     }
+}
+
+fn say_register(dac: Dac, i: usize) {
+    if INDIRECT_FIRST <= i {
+        say_indexed(dac);
+        say(b" ");
+    }
+    say_row(i);
 }
 
 fn say_address(offset: u32) {
@@ -52,7 +56,7 @@ fn say_address(offset: u32) {
 }
 
 fn say_window(i: usize, offset: u32) {
-    if i == 0 {
+    if i == APERTURE_ONE {
         say(b"aperture one byte ");
     } else {
         say(b"aperture two byte ");
@@ -60,25 +64,37 @@ fn say_window(i: usize, offset: u32) {
     say_hex(offset);
 }
 
-fn say_nowhere(target: u32, offset: u32) {
+fn say_offset(target: u32, offset: u32) {
     say(b"target ");
     say_number(target);
     say(b" offset ");
     say_hex(offset);
 }
 
+// No register is there. The RAMDAC's data are named all the same: they are nowhere while the address is unknown, and indexed data
+// at an index without a register.
+fn say_nowhere(dac: Dac, target: u32, offset: u32) {
+    if target != 0 {
+        say_offset(target, offset);
+        return;
+    }
+    match offset {
+        0x4008 => say_palette(dac),
+        0x4050 => say_indexed(dac),
+        _ => say_offset(target, offset),
+    }
+}
+
 // What an access reaches, by the manual's name.
 fn say_place(dac: Dac, a: Access) {
-    let place = place_of(a.target, a.offset);
+    let place = place_of(dac, a.target, a.offset);
     match place {
-        Place::Register(i) => say_region(i),
+        Place::Register(i) => say_register(dac, i),
         Place::Address => say_address(a.offset),
         Place::PaletteData => say_palette(dac),
-        Place::IndexedData => say_indexed(dac),
         Place::Window(i) => say_window(i, a.offset),
-        Place::Config(i) => say_header(i),
-        Place::Blank => say_nowhere(a.target, a.offset),
-        Place::Nowhere => say_nowhere(a.target, a.offset),
+        Place::Blank => say_offset(a.target, a.offset),
+        Place::Nowhere => say_nowhere(dac, a.target, a.offset),
     }
 }
 

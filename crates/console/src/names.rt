@@ -1,6 +1,7 @@
-// The registers' names as the manual has them, in the order of their tables.
+// The registers' names as the manual has them, in the order of the bank's rows.
 use crate::say::say;
-use registers::indirect::index_exists;
+use chip::HEADER_FIRST;
+use chip::INDIRECT_FIRST;
 use text::find::find;
 ghost use Prim.Native.Nat.{_+_, _≤_};
 ghost use lib.ListN.{length};
@@ -38,49 +39,34 @@ fn say_name(names: &[u8], i: usize) {
     say(&rest[..n]);
 }
 
-// A register of region 0, by its row.
-pub fn say_region(i: usize) {
+fn say_region(i: usize) {
     say_name(
         b"ApertureOne ApertureTwo ByDMAAddress ByDMAStride ByDMAMemAddr ByDMASize ByDMAByteMask ByDMAControl ByDMAComplete Reboot MemControl BootAddress MemConfig BypassWriteMask FramebufferWriteMask Count ScreenBase ScreenStride HTotal HgEnd HbEnd HsStart HsEnd VTotal VbEnd VsStart VsEnd VideoControl InterruptLine DisplayData LineCount FifoControl ScreenBaseRight RDPixelMask RDCursorXLow RDCursorXHigh RDCursorYLow RDCursorYHigh",
         i,
     );
 }
 
-// A register of the header, by its row.
-pub fn say_header(i: usize) {
+fn say_header(i: usize) {
     say_name(
         b"CFGVendorId/CFGDeviceId CFGCommand/CFGStatus CFGRevisionId/CFGClassCode CFGCacheLine/CFGLatTimer/CFGHeaderType/CFGBist CFGBaseAddr0 CFGBaseAddr1 CFGBaseAddr2 CFGCardBus CFGSubsystemVendorId/CFGSubsystemId CFGRomAddr CFGCapPtr CFGIntLine/CFGIntPin/CFGMinGrant/CFGMaxLat CFGCapID/CFGNextPtr/CFGAGPRev CFGAGPStatus CFGAGPCommand CFGIndirectAddress CFGIndirectData",
         i,
     );
 }
 
-// One more where there is a register at the index.
-fn counted(k: usize, index: u8) -> usize
-    requires { ⌜ k ≤ index ⌝ }
-    ensures { λ r. ⌜ r ≤ index + 1 ⌝ }
-{
-    if index_exists(index) {
-        return k + 1;
-    }
-    k
-}
-
-// How many indirect registers come before an index.
-fn before_index(i: u8) -> usize {
-    let mut k: usize = 0;
-    let mut index: u8 = 0;
-    while index < i {
-        k = counted(k, index);
-        index += 1;
-    }
-    k
-}
-
-// An indirect register, by its index.
-pub fn say_indirect(i: u8) {
-    let k = before_index(i);
+fn say_indirect(i: usize) {
     say_name(
         b"RDCursorControl RDColorMode RDModeControl RDPalettePage RDMiscControl RDPixelClockA1 RDPixelClockA2 RDPixelClockA3 RDPixelClockB1 RDPixelClockB2 RDPixelClockB3 RDPixelClockC1 RDPixelClockC2 RDPixelClockC3 RDPixelClockStatus RDMemoryClock1 RDMemoryClock2 RDMemoryClock3 RDMemoryClockStatus RDColorKeyControl RDOverlayKey RDRedKey RDGreenKey RDBlueKey",
-        k,
+        i,
     );
+}
+
+// A register, by its row of the bank.
+pub fn say_row(i: usize) {
+    if i < HEADER_FIRST {
+        say_region(i);
+    } else if i < INDIRECT_FIRST {
+        say_header(i - HEADER_FIRST);
+    } else {
+        say_indirect(i - INDIRECT_FIRST);
+    }
 }

@@ -25,12 +25,6 @@ use Rattle.layout.proofs.values_of_state.Kinds as values-of-state-kinds
 use Rattle.layout.proofs.knowns_of_state as knowns-of-state
 use Rattle.layout.proofs.knowns_of_state.Reads as knowns-of-state-reads
 use Rattle.layout.proofs.knowns_of_state.Kinds as knowns-of-state-kinds
-use Rattle.layout.proofs.header_of_state as header-of-state
-use Rattle.layout.proofs.header_of_state.Reads as header-of-state-reads
-use Rattle.layout.proofs.header_of_state.Kinds as header-of-state-kinds
-use Rattle.layout.proofs.indirect_of_state as indirect-of-state
-use Rattle.layout.proofs.indirect_of_state.Reads as indirect-of-state-reads
-use Rattle.layout.proofs.indirect_of_state.Kinds as indirect-of-state-kinds
 use Rattle.layout.proofs.dac_of_state as dac-of-state
 use Rattle.layout.proofs.dac_of_state.Reads as dac-of-state-reads
 use Rattle.layout.proofs.dac_of_state.Kinds as dac-of-state-kinds
@@ -98,16 +92,6 @@ pub knowns-of-state-one : (κs : Lfts 1) (a : ArgsD knowns-of-state.signature κ
     (x x′ : AtExit (kinds.endedOf 1 knowns-of-state-kinds.ps knowns-of-state-kinds.r) κs)
     → knowns-of-state-reads.Post κs a r x → knowns-of-state-reads.Post κs a r′ x′ → now (x .1 .0) ≡ now (x′ .1 .0)
 knowns-of-state-one κs a r r′ x x′ e e′ = e ∙ sym e′
-
-pub header-of-state-one : (κs : Lfts 1) (a : ArgsD header-of-state.signature κs) (r r′ : ResD header-of-state.signature κs)
-    (x x′ : AtExit (kinds.endedOf 1 header-of-state-kinds.ps header-of-state-kinds.r) κs)
-    → header-of-state-reads.Post κs a r x → header-of-state-reads.Post κs a r′ x′ → now (x .1 .0) ≡ now (x′ .1 .0)
-header-of-state-one κs a r r′ x x′ e e′ = e ∙ sym e′
-
-pub indirect-of-state-one : (κs : Lfts 1) (a : ArgsD indirect-of-state.signature κs) (r r′ : ResD indirect-of-state.signature κs)
-    (x x′ : AtExit (kinds.endedOf 1 indirect-of-state-kinds.ps indirect-of-state-kinds.r) κs)
-    → indirect-of-state-reads.Post κs a r x → indirect-of-state-reads.Post κs a r′ x′ → now (x .1 .0) ≡ now (x′ .1 .0)
-indirect-of-state-one κs a r r′ x x′ e e′ = e ∙ sym e′
 
 pub dac-of-state-one : (κs : Lfts 1) (a : ArgsD dac-of-state.signature κs) (r r′ : ResD dac-of-state.signature κs)
     (x x′ : AtExit (kinds.endedOf 1 dac-of-state-kinds.ps dac-of-state-kinds.r) κs)

@@ -7,6 +7,7 @@ use chip::Answer;
 use chip::Dac;
 use chip::Opened;
 use chip::Palette;
+use chip::ROWS;
 use chip::State;
 
 // ---- made here, read by C
@@ -37,10 +38,8 @@ pub extern "C" fn made_state<'a>(
     height: u32,
     fitted: u32,
     once: u32,
-    values: &'a [u32; 38],
-    knowns: &'a [u32; 38],
-    header: &'a [u32; 17],
-    indirect: &'a [u8; 256],
+    values: &'a [u32; ROWS],
+    knowns: &'a [u32; ROWS],
     address: u8,
     known: u8,
     component: u8,
@@ -52,7 +51,7 @@ pub extern "C" fn made_state<'a>(
     blue: &'a [u8; 256],
     stored: &'a [u8; 256],
 ) -> State
-    ensures { λ r. ⌜ r ≡ record { width = width; height = height; fitted = fitted; once = once; values = now (values .entry); knowns = now (knowns .entry); header = now (header .entry); indirect = now (indirect .entry); dac = record { address = address; known = known; component = component; staged = staged; red = «staged_red»; green = «staged_green» }; palette = record { red = now (red .entry); green = now (green .entry); blue = now (blue .entry); stored = now (stored .entry) } } ⌝ }
+    ensures { λ r. ⌜ r ≡ record { width = width; height = height; fitted = fitted; once = once; values = now (values .entry); knowns = now (knowns .entry); dac = record { address = address; known = known; component = component; staged = staged; red = «staged_red»; green = «staged_green» }; palette = record { red = now (red .entry); green = now (green .entry); blue = now (blue .entry); stored = now (stored .entry) } } ⌝ }
 {
     let dac = Dac {
         address,
@@ -74,8 +73,6 @@ pub extern "C" fn made_state<'a>(
     };
     let v = *values;
     let n = *knowns;
-    let h = *header;
-    let i = *indirect;
     State {
         width,
         height,
@@ -83,8 +80,6 @@ pub extern "C" fn made_state<'a>(
         once,
         values: v,
         knowns: n,
-        header: h,
-        indirect: i,
         dac,
         palette,
     }
@@ -127,7 +122,7 @@ pub extern "C" fn sizes_of_state(s: State, out: &mut [u32; 4])
 }
 
 #[no_mangle]
-pub extern "C" fn values_of_state(s: State, out: &mut [u32; 38])
+pub extern "C" fn values_of_state(s: State, out: &mut [u32; ROWS])
     ensures { λ r. ⌜ now (out .exit) ≡ s .values ⌝ }
 {
     let part = s.values;
@@ -135,26 +130,10 @@ pub extern "C" fn values_of_state(s: State, out: &mut [u32; 38])
 }
 
 #[no_mangle]
-pub extern "C" fn knowns_of_state(s: State, out: &mut [u32; 38])
+pub extern "C" fn knowns_of_state(s: State, out: &mut [u32; ROWS])
     ensures { λ r. ⌜ now (out .exit) ≡ s .knowns ⌝ }
 {
     let part = s.knowns;
-    *out = part;
-}
-
-#[no_mangle]
-pub extern "C" fn header_of_state(s: State, out: &mut [u32; 17])
-    ensures { λ r. ⌜ now (out .exit) ≡ s .header ⌝ }
-{
-    let part = s.header;
-    *out = part;
-}
-
-#[no_mangle]
-pub extern "C" fn indirect_of_state(s: State, out: &mut [u8; 256])
-    ensures { λ r. ⌜ now (out .exit) ≡ s .indirect ⌝ }
-{
-    let part = s.indirect;
     *out = part;
 }
 

@@ -2,43 +2,43 @@
 -- The definitions opened one after the other; reads and quiet writes draw nothing (QuietLaws). Assumes nothing.
 use Prim.Native.Nat.{ℕ, _*_}
 use mathlib.Core.Bool.{Bool, true, false, not, _&&_}
-use mathlib.Core.List.{List}
+use mathlib.Core.List.{List, []}
+use mathlib.Core.Option.{Option, Option·getD}
 use mathlib.Core.Path.{_≡_, refl, sym, ap, ap₂, _∙_, subst}
 use borrow.Author.Tests.{eq-eqb, ne-eqb, not-false}
 use lib.Dec.{eqb, ltb, leb}
 use lib.ListN.{getD, length}
 use Rattle.bits.specs.Choose.{pick}
-use Rattle.bits.specs.Bit.{bit}
 use Rattle.bits.specs.Word.{lanesOf}
 use Rattle.bits.proofs.Cases.{pick-by}
-use Rattle.bits.proofs.Bools.{and-first, and-second, and-both, clash}
+use Rattle.bits.proofs.Bools.{and-second, and-both}
+use Rattle.bits.proofs.Words.{inside-zero}
 use Rattle.chip.specs.declared.State.{State}
 use Rattle.chip.specs.declared.Access.{Access}
 use Rattle.chip.specs.declared.Dac.{Dac}
-use Rattle.chip.specs.Dac.{afterPeek}
 use Rattle.chip.specs.declared.Answer.{Answer}
 use Rattle.chip.specs.declared.Seen.{Seen}
 use Rattle.chip.specs.declared.Place.{Place}
-use Rattle.chip.specs.declared.Place.the-variants.{Register, Address, PaletteData, IndexedData, Window, Config, Blank, Nowhere}
-use Rattle.chip.specs.Aperture.{putsOf, putAll}
+use Rattle.chip.specs.declared.Place.the-variants.{Register, Address, PaletteData, Window, Blank, Nowhere}
+use Rattle.chip.specs.Aperture.{Put, putsOf, putAll}
+use Rattle.chip.specs.Bank.{regionCount, indirectFirst, regionAt, headerAt, indirectAt, indirectEntry, apertureOne, apertureTwo}
+use Rattle.chip.specs.Dac.{addressKnown}
 use Rattle.chip.specs.Units.{atByte}
-use Rattle.chip.specs.Sound.{panelOk, memoryOk, onceOk, isState}
-use Rattle.chip.specs.Region.{regionCount, regionAt}
-use Rattle.chip.specs.Header.{headerCount, headerAt}
-use Rattle.chip.specs.Place.{regionPlace, headerPlace, placeAt, placeOf}
-use Rattle.chip.specs.Refusal.{isWrite, laterLines, accessLines, statusOf}
-use Rattle.chip.specs.State.{withRegister, withHeader, withIndirect, withDac}
-use Rattle.chip.specs.Effect.{Effect, idle, wroteRegister, wroteHeader, wroteIndirect, setAddress, wroteComponent, readComponent, wroteMemory, seen, seenAt, knownIn, wordIn, stateWith, memoryWith, readEffect, writeEffect}
+use Rattle.chip.specs.Sound.{panelOk, isState}
+use Rattle.chip.specs.Patch.{Patch, applied, memoryWith}
+use Rattle.chip.specs.Place.{dataPlace, indexedPlace, regionPlace, headerPlace, placeAt, placeOf}
+use Rattle.chip.specs.Port.{Port, seen, knownIn, wordIn, rowPatch, aimPatch, paintPatch, pokePatch, portAt}
+use Rattle.chip.specs.Refusal.{isWrite, portOf, laterLines, accessLines, statusOf}
 use Rattle.chip.specs.Picture.{wordOf}
-use Rattle.chip.specs.Step.{Outcome, Gives, answered, refused, settled, seenBy, effectOf, stateAfter, memoryAfter, doneBy, givenBy, stepOf}
+use Rattle.chip.specs.Step.{Outcome, Gives, answered, refused, settled, seenBy, patchOf, stateAfter, memoryAfter, doneBy, givenBy, stepOf}
 use Rattle.chip.proofs.Lines.{none-holds}
-use Rattle.chip.proofs.Lent.{read-memory}
-use Rattle.bits.proofs.Words.{inside-zero}
+use Rattle.chip.proofs.Ports.{stepOnly, read-steps}
 use Rattle.picture.specs.Draw.{fits, Redraws}
 use Rattle.picture.proofs.Parts.{still-redraws}
-use Rattle.model.specs.Parts.{sizesOk, dacAfter, mayShow}
-use Rattle.model.proofs.TestLaws.{grouped}
-use Rattle.model.proofs.QuietLaws.{quiet-write, quiet-read}
+use Rattle.model.specs.Parts.{QuietUnless}
+use Rattle.model.specs.Stages.{statusFrom}
+use Rattle.model.proofs.TestLaws.{status-is, panel-of}
+use Rattle.model.proofs.QuietLaws.{quiet-read}
 
 -- ---- redraws
 
@@ -46,7 +46,7 @@ pub redraws-by : (t u : Bool) (f g : ℕ → ℕ) (l : List ℕ) (r : ℕ) (k : 
 redraws-by t u f g l r k e d = subst (λ (b : Bool). Redraws b f g l r k) e d
 
 -- a redraw that was left out where no word changes
-pub shown : (t : Bool) (f g : ℕ → ℕ) (l : List ℕ) (r : ℕ) (k : List ℕ) → (t ≡ false → (j : ℕ) → f j ≡ g j) → Redraws t f g l r k → Redraws true f g l r k
+shown : (t : Bool) (f g : ℕ → ℕ) (l : List ℕ) (r : ℕ) (k : List ℕ) → (t ≡ false → (j : ℕ) → f j ≡ g j) → Redraws t f g l r k → Redraws true f g l r k
 shown true f g l r k h d = d
 shown false f g l r k h d =
     let z = still-redraws true f g l (h refl) in
@@ -59,100 +59,88 @@ pub settles : (s : State) (m p : List ℕ) (n : State) (m′ : List ℕ) (w k c 
 unfolding settled
 settles s m p n m′ w k c q d = record { answer = ap (λ (x : ℕ). answered 0 w k x n) (d .count); memory = refl; picture = d .picture }
 
-width-kept : (e : Effect) (s : State) → stateWith e s .width ≡ s .width
-unfolding stateWith withRegister withHeader withIndirect withDac
-width-kept idle s = refl
-width-kept (wroteRegister i b w) s = refl
-width-kept (wroteHeader i b w o) s = refl
-width-kept (wroteIndirect i b w) s = refl
-width-kept (setAddress v) s = refl
-width-kept (wroteComponent v) s = refl
-width-kept readComponent s = refl
-width-kept (wroteMemory l) s = refl
-
-pub fits-after : (s n : State) (e : Effect) (pl : ℕ) → n ≡ stateWith e s → fits s s pl ≡ true → fits s n pl ≡ true
-unfolding fits
-fits-after s n e pl q h =
-    ap (λ (w : ℕ). panelOk (s .width) (s .height) && (eqb w (s .width) && eqb pl (s .width * s .height)))
-    (ap (λ (x : State). x .width) q ∙ width-kept e s) ∙ h
+pub fits-after : (s n : State) (p : Patch) (pl : ℕ) → n ≡ applied p s → fits s s pl ≡ true → fits s n pl ≡ true
+unfolding fits applied
+fits-after s n p pl q h =
+    ap (λ (w : ℕ). panelOk (s .width) (s .height) && (eqb w (s .width) && eqb pl (s .width * s .height))) (ap (λ (x : State). x .width) q) ∙ h
 
 -- a write of state: t is whether the picture may show it
-pub wrote : (s : State) (a : Access) (p : Place) (n : State) (t : Bool) (m l : List ℕ) (c : ℕ) (k : List ℕ)
-    → p ≡ placeOf a → n ≡ stateWith (writeEffect s a p) s → t ≡ mayShow s p → Redraws t (wordOf s m) (wordOf n m) l c k
-    → Gives (settled s m l (stateWith (writeEffect s a (placeOf a)) s) m 0 0) (answered 0 0 0 c n) m k
-wrote s a p n t m l c k ep en et d =
-    let z : n ≡ stateWith (writeEffect s a (placeOf a)) s = en ∙ ap (λ (x : Place). stateWith (writeEffect s a x) s) ep in
-    subst (λ (x : State). Gives (settled s m l x m 0 0) (answered 0 0 0 c n) m k) z
+pub wrote : (s : State) (a : Access) (p : Place) (n : State) (t : Bool) (r : Answer) (m l : List ℕ) (c : ℕ) (k : List ℕ)
+    → n ≡ applied (portAt s a p .stored) s → QuietUnless t (s .dac) p → Redraws t (wordOf s m) (wordOf n m) l c k → r ≡ answered 0 0 0 c n
+    → Gives (settled s m l (applied (portAt s a p .stored) s) m 0 0) r m k
+wrote s a p n t r m l c k en q d e =
+    subst (λ (x : Answer). Gives (settled s m l (applied (portAt s a p .stored) s) m 0 0) x m k) (sym e)
+    (subst (λ (x : State). Gives (settled s m l x m 0 0) (answered 0 0 0 c n) m k) en
     (settles s m l n m 0 0 c k
-    (shown t (wordOf s m) (wordOf n m) l c k
-    (λ e j. quiet-write s a p (sym et ∙ e) m j ∙ ap (λ (x : State). wordOf x m j) (sym en)) d))
+    (shown t (wordOf s m) (wordOf n m) l c k (λ h j. q h s a refl m j ∙ ap (λ (x : State). wordOf x m j) (sym en)) d)))
 
 -- a read
-pub read : (s : State) (a : Access) (m l : List ℕ) (r : Answer) (w k : ℕ)
-    → r ≡ answered 0 w k 0 (stateWith (readEffect a (placeOf a)) s) → Gives (settled s m l (stateWith (readEffect a (placeOf a)) s) m w k) r m l
-read s a m l r w k e =
-    subst (λ (x : Answer). Gives (settled s m l (stateWith (readEffect a (placeOf a)) s) m w k) x m l) (sym e)
-    (settles s m l (stateWith (readEffect a (placeOf a)) s) m w k 0 l (still-redraws true _ _ l (quiet-read s a (placeOf a) m)))
+read : (s : State) (a : Access) (p : Place) (m l : List ℕ) (r : Answer) (w k : ℕ)
+    → r ≡ answered 0 w k 0 (applied (portAt s a p .peeked) s) → Gives (settled s m l (applied (portAt s a p .peeked) s) m w k) r m l
+read s a p m l r w k e =
+    subst (λ (x : Answer). Gives (settled s m l (applied (portAt s a p .peeked) s) m w k) x m l) (sym e)
+    (settles s m l (applied (portAt s a p .peeked) s) m w k 0 l (still-redraws true _ _ l (quiet-read s a p m)))
 
--- ---- the definition of an access, opened
+-- the state that a read leaves: with the palette's pointer as the read has it
+pub read-state : (s : State) (a : Access) (p : Place) (d : Dac) → ((n : State) → n .dac ≡ s .dac → d ≡ Option·getD (portAt n a p .peeked .dac) (n .dac))
+    → (let n : State = record { width = s .width; height = s .height; fitted = s .fitted; once = s .once; values = s .values; knowns = s .knowns; dac = d; palette = s .palette } in n)
+    ≡ applied (portAt s a p .peeked) s
+unfolding applied
+read-state s a p d f =
+    ap (λ (x : Dac). (let n : State = record { width = s .width; height = s .height; fitted = s .fitted; once = s .once; values = s .values; knowns = s .knowns; dac = x; palette = s .palette } in n)) (f s refl)
+    ∙ ap (λ (q : Patch). applied q s) (sym (read-steps s a p))
 
--- a place that is no window
-unfoldable plain : Place → Bool
-plain (Register i) = true
-plain Address = true
-plain PaletteData = true
-plain IndexedData = true
-plain (Window i) = false
-plain (Config i) = true
-plain Blank = true
-plain Nowhere = true
+-- what a read answers
+pub read-answer : (s : State) (a : Access) (p : Place) (m : List ℕ) (x : Seen) (n : State) (w k : ℕ)
+    → x ≡ portAt s a p .seen m → w ≡ wordIn x (a .enables) → k ≡ knownIn x (a .enables) → n ≡ applied (portAt s a p .peeked) s
+    → answered 0 w k 0 n
+    ≡ answered 0 (wordIn (portAt s a p .seen m) (a .enables)) (knownIn (portAt s a p .seen m) (a .enables)) 0 (applied (portAt s a p .peeked) s)
+read-answer s a p m x n w k ex ew ek en =
+    ap₂ (λ (y z : ℕ). answered 0 y z 0 n) ew ek
+    ∙ ap₂ (λ (y : Seen) (z : State). answered 0 (wordIn y (a .enables)) (knownIn y (a .enables)) 0 z) ex en
 
-write-memory : (s : State) (a : Access) (p : Place) (m : List ℕ) → plain p ≡ true → memoryWith (writeEffect s a p) m ≡ m
-unfolding writeEffect memoryWith plain
-write-memory s a (Register i) m e = refl
-write-memory s a Address m e = pick-by (λ (f : Effect). memoryWith f m ≡ m) (bit 0 (a .enables)) _ idle refl refl
-write-memory s a PaletteData m e = pick-by (λ (f : Effect). memoryWith f m ≡ m) (bit 0 (a .enables)) _ idle refl refl
-write-memory s a IndexedData m e = refl
-write-memory s a (Window i) m e = clash false e refl
-write-memory s a (Config i) m e = refl
-write-memory s a Blank m e = refl
-write-memory s a Nowhere m e = refl
+-- ---- windows: targets 1 and 2, and no other
 
--- targets 1 and 2 are the windows, and no other target is one
-pub first-window : (a : Access) → a .target ≡ 1 → placeOf a ≡ Window 0
+pub first-window : (s : State) (a : Access) → a .target ≡ 1 → placeOf s a ≡ Window apertureOne
 unfolding placeAt
-first-window a e = simp e
+first-window s a e = simp e
 
-pub second-window : (a : Access) → a .target ≡ 2 → placeOf a ≡ Window 1
+pub second-window : (s : State) (a : Access) → a .target ≡ 2 → placeOf s a ≡ Window apertureTwo
 unfolding placeAt
-second-window a e = simp e
+second-window s a e = simp e
 
-region-plain : (o : ℕ) → plain (regionPlace o) ≡ true
-unfolding regionPlace plain
-region-plain o =
-    pick-by (λ (p : Place). plain p ≡ true) (eqb o 0x4000) Address _ refl
-    (pick-by (λ (p : Place). plain p ≡ true) (eqb o 0x4008) PaletteData _ refl
-    (pick-by (λ (p : Place). plain p ≡ true) (eqb o 0x4018) Address _ refl
-    (pick-by (λ (p : Place). plain p ≡ true) (eqb o 0x4050) IndexedData _ refl
-    (pick-by (λ (p : Place). plain p ≡ true) (ltb (regionAt o) regionCount) (Register (regionAt o)) Nowhere refl refl))))
+module _ (s : State) (a : Access) where
+  -- what is stored at a place is nothing of memory
+  abbrev Dry : Place → Type 0
+  Dry p = portAt s a p .stored .puts ≡ []
 
-header-plain : (o : ℕ) → plain (headerPlace o) ≡ true
-unfolding headerPlace plain
-header-plain o =
-    pick-by (λ (p : Place). plain p ≡ true) (leb o 0xFC) _ Nowhere
-    (pick-by (λ (p : Place). plain p ≡ true) (ltb (headerAt o) headerCount) (Config (headerAt o)) Blank refl refl) refl
+  region-dry : (d : Dac) (o : ℕ) → Dry (regionPlace d o)
+  unfolding regionPlace dataPlace indexedPlace portAt rowPatch aimPatch paintPatch
+  region-dry d o =
+      pick-by Dry (eqb o 0x4000) Address _ refl
+      (pick-by Dry (eqb o 0x4008) _ _ (pick-by Dry (addressKnown d) PaletteData Nowhere refl refl)
+      (pick-by Dry (eqb o 0x4018) Address _ refl
+      (pick-by Dry (eqb o 0x4050) _ _
+      (pick-by Dry (addressKnown d) _ Nowhere
+      (pick-by Dry (indirectEntry (d .address) .exists) (Register (indirectAt (d .address))) Nowhere refl refl) refl)
+      (pick-by Dry (ltb (regionAt o) regionCount) (Register (regionAt o)) Nowhere refl refl))))
 
-nowhere-plain : plain Nowhere ≡ true
-unfolding plain
-nowhere-plain = refl
+  header-dry : (o : ℕ) → Dry (headerPlace o)
+  unfolding headerPlace portAt rowPatch
+  header-dry o =
+      pick-by Dry (leb o 0xFC) _ Nowhere
+      (pick-by Dry (ltb (headerAt o) indirectFirst) (Register (headerAt o)) Blank refl refl) refl
 
-other-plain : (a : Access) → (a .target ≡ 1 → ⊥) → (a .target ≡ 2 → ⊥) → plain (placeOf a) ≡ true
-unfolding placeAt
-other-plain a h k =
-    pick-by (λ (p : Place). plain p ≡ true) (eqb (a .target) 0) (regionPlace (a .offset)) _ (region-plain (a .offset))
-    (ap (λ (t : Bool). plain (pick t (Window 0) (pick (eqb (a .target) 2) (Window 1) (pick (eqb (a .target) 3) (headerPlace (a .offset)) Nowhere)))) (ne-eqb (a .target) 1 h)
-    ∙ ap (λ (t : Bool). plain (pick t (Window 1) (pick (eqb (a .target) 3) (headerPlace (a .offset)) Nowhere))) (ne-eqb (a .target) 2 k)
-    ∙ pick-by (λ (p : Place). plain p ≡ true) (eqb (a .target) 3) (headerPlace (a .offset)) Nowhere (header-plain (a .offset)) nowhere-plain)
+  nowhere-dry : Dry Nowhere
+  unfolding portAt
+  nowhere-dry = refl
+
+  other-dry : (a .target ≡ 1 → ⊥) → (a .target ≡ 2 → ⊥) → Dry (placeOf s a)
+  unfolding placeAt
+  other-dry h k =
+      pick-by Dry (eqb (a .target) 0) (regionPlace (s .dac) (a .offset)) _ (region-dry (s .dac) (a .offset))
+      (simp (ne-eqb (a .target) 1 h, ne-eqb (a .target) 2 k)
+      (pick-by Dry (eqb (a .target) 3) (headerPlace (a .offset)) Nowhere (header-dry (a .offset)) nowhere-dry))
 
 -- ---- the parts of what is done
 
@@ -169,42 +157,27 @@ nothing-seen : (e : ℕ) → wordIn (seen 0 0) e ≡ 0
 unfolding wordIn
 nothing-seen e = inside-zero (knownIn (seen 0 0) e)
 
-module _ (s : State) (m p : List ℕ) (a : Access) where
-  effect-read : isWrite a ≡ false → effectOf s a ≡ readEffect a (placeOf a)
-  unfolding effectOf
-  effect-read e = simp e
+module _ (s : State) (m l : List ℕ) (a : Access) (p : Place) (ep : p ≡ placeOf s a) where
+  port : portOf s a ≡ portAt s a p
+  unfolding portOf
+  port = ap (portAt s a) (sym ep)
 
-  effect-write : isWrite a ≡ true → effectOf s a ≡ writeEffect s a (placeOf a)
-  unfolding effectOf
-  effect-write e = simp e
-
-  seen-read : isWrite a ≡ false → seenBy s m a ≡ seenAt s m (a .offset) (placeOf a)
-  unfolding seenBy
-  seen-read e = simp e
-
-  seen-write : isWrite a ≡ true → seenBy s m a ≡ seen 0 0
-  unfolding seenBy
-  seen-write e = simp e
+  read-memory : memoryWith (portAt s a p .peeked) m ≡ m
+  unfolding memoryWith
+  read-memory = ap (λ (q : Patch). putAll m (q .puts)) (read-steps s a p)
 
   done-read : isWrite a ≡ false
-      → doneBy s m p a ≡ settled s m p (stateWith (readEffect a (placeOf a)) s) m (wordIn (seenAt s m (a .offset) (placeOf a)) (a .enables)) (knownIn (seenAt s m (a .offset) (placeOf a)) (a .enables))
-  unfolding doneBy stateAfter memoryAfter
+      → doneBy s m l a ≡ settled s m l (applied (portAt s a p .peeked) s) m (wordIn (portAt s a p .seen m) (a .enables)) (knownIn (portAt s a p .seen m) (a .enables))
+  unfolding doneBy stateAfter memoryAfter patchOf seenBy
   done-read e =
-      settled-as s m p _ _ _ _ _ _ _ _
-      (ap (λ (x : Effect). stateWith x s) (effect-read e))
-      (ap (λ (x : Effect). memoryWith x m) (effect-read e) ∙ read-memory a (placeOf a) m)
-      (ap (λ (x : Seen). wordIn x (a .enables)) (seen-read e))
-      (ap (λ (x : Seen). knownIn x (a .enables)) (seen-read e))
+      settled-as s m l _ _ _ _ _ _ _ _ (simp (e, port)) (simp (e, port) read-memory) (simp (e, port)) (simp (e, port))
 
-  done-write : (q : List ℕ) → isWrite a ≡ true → memoryWith (writeEffect s a (placeOf a)) m ≡ q
-      → doneBy s m p a ≡ settled s m p (stateWith (writeEffect s a (placeOf a)) s) q 0 0
-  unfolding doneBy stateAfter memoryAfter
+  done-write : (q : List ℕ) → isWrite a ≡ true → memoryWith (portAt s a p .stored) m ≡ q
+      → doneBy s m l a ≡ settled s m l (applied (portAt s a p .stored) s) q 0 0
+  unfolding doneBy stateAfter memoryAfter patchOf seenBy
   done-write q e h =
-      settled-as s m p _ _ _ _ _ _ _ _
-      (ap (λ (x : Effect). stateWith x s) (effect-write e))
-      (ap (λ (x : Effect). memoryWith x m) (effect-write e) ∙ h)
-      (ap (λ (x : Seen). wordIn x (a .enables)) (seen-write e) ∙ nothing-seen (a .enables))
-      (ap (λ (x : Seen). knownIn x (a .enables)) (seen-write e) ∙ nothing-known (a .enables))
+      settled-as s m l _ _ _ _ _ _ _ _ (simp (e, port)) (simp (e, port) h)
+      (simp e (nothing-seen (a .enables))) (simp e (nothing-known (a .enables)))
 
 -- ---- one access
 
@@ -216,85 +189,55 @@ reads : (a : Access) → a .write ≡ 0 → isWrite a ≡ false
 unfolding isWrite
 reads a e = ap not (eq-eqb (a .write) 0 e)
 
-window-state : (s : State) (a : Access) (i : ℕ) → stateWith (writeEffect s a (Window i)) s ≡ s
-unfolding stateWith writeEffect
-window-state s a i = refl
+-- found: its place and its status
+pub record Found (s : State) (m l : List ℕ) (a : Access) (p : Place) (n : ℕ) : Type 0 where
+  pub place : p ≡ placeAt (s .dac) (a .target) (a .offset)
+  pub status : n ≡ statusFrom s (length m) (length l) (portAt s a p) a
 
-window-memory : (s : State) (a : Access) (i : ℕ) (m : List ℕ)
-    → memoryWith (writeEffect s a (Window i)) m ≡ putAll m (putsOf (getD (s .values) i 0) (atByte (a .offset)) (a .enables) (a .word))
-unfolding memoryWith writeEffect
-window-memory s a i m = refl
+module _ (s : State) (m l : List ℕ) (a : Access) (p : Place) (n : ℕ) (f : Found s m l a p n) where
+  en : n ≡ statusOf s (length m) (length l) a
+  en = f .status ∙ status-is s (length m) (length l) a p (f .place)
 
-panel-of : (s : State) → sizesOk (s .width) (s .height) (s .fitted) (s .once) ≡ true → panelOk (s .width) (s .height) ≡ true
-unfolding sizesOk
-panel-of s e = and-first (panelOk (s .width) (s .height)) (memoryOk (s .fitted) && onceOk (s .once)) e
+  -- what is not refused has a picture that fits its panel
+  pub step-fits : n ≡ 0 → fits s s (length l) ≡ true
+  unfolding statusOf accessLines laterLines fits
+  step-fits h =
+      let e : statusOf s (length m) (length l) a ≡ 0 = sym en ∙ h in
+      let one = not-false (isState s) (none-holds (accessLines s (length m) (length l) a) refl e 0) in
+      let two = not-false (eqb (length m) (s .fitted) && eqb (length l) (s .width * s .height)) (none-holds (accessLines s (length m) (length l) a) refl e 1) in
+      and-both (panelOk (s .width) (s .height)) (eqb (s .width) (s .width) && eqb (length l) (s .width * s .height)) (panel-of s one)
+      (and-both (eqb (s .width) (s .width)) (eqb (length l) (s .width * s .height)) (eq-eqb (s .width) (s .width) refl)
+      (and-second (eqb (length m) (s .fitted)) (eqb (length l) (s .width * s .height)) two))
 
-module _ (s : State) (m p : List ℕ) (a : Access) (n : ℕ) (en : n ≡ statusOf s (length m) (length p) a) (r : Answer) where
-  pub step-refused : (n ≡ 0 → ⊥) → r ≡ answered n 0 0 0 s → Gives (stepOf s m p a) r m p
+module _ (s : State) (m l : List ℕ) (a : Access) (p : Place) (n : ℕ) (f : Found s m l a p n) (r : Answer) where
+  pub step-refused : (n ≡ 0 → ⊥) → r ≡ answered n 0 0 0 s → Gives (stepOf s m l a) r m l
   unfolding stepOf givenBy refused
   step-refused h e =
-      let z : stepOf s m p a ≡ refused n s m p =
-      ap (λ (k : ℕ). pick (eqb k 0) (doneBy s m p a) (refused k s m p)) (sym en) ∙ ap (λ (t : Bool). pick t (doneBy s m p a) (refused n s m p)) (ne-eqb n 0 h) in
-      subst (λ (o : Outcome). Gives o r m p) (sym z) (record { answer = e; memory = refl; picture = refl })
+      let z : stepOf s m l a ≡ refused n s m l =
+      ap (λ (k : ℕ). pick (eqb k 0) (doneBy s m l a) (refused k s m l)) (sym (en s m l a p n f)) ∙ ap (λ (t : Bool). pick t (doneBy s m l a) (refused n s m l)) (ne-eqb n 0 h) in
+      subst (λ (o : Outcome). Gives o r m l) (sym z) (record { answer = e; memory = refl; picture = refl })
 
-  step-done : (o : Outcome) (m′ p′ : List ℕ) → n ≡ 0 → doneBy s m p a ≡ o → Gives o r m′ p′ → Gives (stepOf s m p a) r m′ p′
+  step-done : (o : Outcome) (m′ l′ : List ℕ) → n ≡ 0 → doneBy s m l a ≡ o → Gives o r m′ l′ → Gives (stepOf s m l a) r m′ l′
   unfolding stepOf givenBy
-  step-done o m′ p′ h d g =
-      let z : stepOf s m p a ≡ doneBy s m p a =
-      ap (λ (k : ℕ). pick (eqb k 0) (doneBy s m p a) (refused k s m p)) (sym en ∙ h) in
-      subst (λ (x : Outcome). Gives x r m′ p′) (sym (z ∙ d)) g
+  step-done o m′ l′ h d g =
+      let z : stepOf s m l a ≡ doneBy s m l a =
+      ap (λ (k : ℕ). pick (eqb k 0) (doneBy s m l a) (refused k s m l)) (sym (en s m l a p n f) ∙ h) in
+      subst (λ (x : Outcome). Gives x r m′ l′) (sym (z ∙ d)) g
 
   pub step-read : n ≡ 0 → a .write ≡ 0
-      → r ≡ answered 0 (wordIn (seenAt s m (a .offset) (placeOf a)) (a .enables)) (knownIn (seenAt s m (a .offset) (placeOf a)) (a .enables)) 0 (stateWith (readEffect a (placeOf a)) s)
-      → Gives (stepOf s m p a) r m p
-  step-read h w e = step-done _ m p h (done-read s m p a (reads a w)) (read s a m p r _ _ e)
+      → r ≡ answered 0 (wordIn (portAt s a p .seen m) (a .enables)) (knownIn (portAt s a p .seen m) (a .enables)) 0 (applied (portAt s a p .peeked) s)
+      → Gives (stepOf s m l a) r m l
+  step-read h w e = step-done _ m l h (done-read s m l a p (f .place) (reads a w)) (read s a p m l r _ _ e)
 
-  pub step-window : (i : ℕ) (m′ p′ : List ℕ) → n ≡ 0 → (a .write ≡ 0 → ⊥) → placeOf a ≡ Window i
-      → Gives (settled s m p s (putAll m (putsOf (getD (s .values) i 0) (atByte (a .offset)) (a .enables) (a .word))) 0 0) r m′ p′ → Gives (stepOf s m p a) r m′ p′
-  step-window i m′ p′ h w e g =
-      step-done _ m′ p′ h
-      (done-write s m p a _ (writes a w) (ap (λ (x : Place). memoryWith (writeEffect s a x) m) e ∙ window-memory s a i m)
-      ∙ ap (λ (x : State). settled s m p x (putAll m (putsOf (getD (s .values) i 0) (atByte (a .offset)) (a .enables) (a .word))) 0 0)
-      (ap (λ (x : Place). stateWith (writeEffect s a x) s) e ∙ window-state s a i)) g
+  pub step-window : (i : ℕ) (m′ l′ : List ℕ) → n ≡ 0 → (a .write ≡ 0 → ⊥) → placeOf s a ≡ Window i
+      → Gives (settled s m l s (putAll m (putsOf (getD (s .values) i 0) (atByte (a .offset)) (a .enables) (a .word))) 0 0) r m′ l′ → Gives (stepOf s m l a) r m′ l′
+  unfolding portAt pokePatch applied memoryWith
+  step-window i m′ l′ h w e g = step-done _ m′ l′ h (done-write s m l a (Window i) (sym e) _ (writes a w) refl) g
 
-  pub step-write : (p′ : List ℕ) → n ≡ 0 → (a .write ≡ 0 → ⊥) → (a .target ≡ 1 → ⊥) → (a .target ≡ 2 → ⊥)
-      → Gives (settled s m p (stateWith (writeEffect s a (placeOf a)) s) m 0 0) r m p′ → Gives (stepOf s m p a) r m p′
-  step-write p′ h w k l g =
-      step-done _ m p′ h (done-write s m p a m (writes a w) (write-memory s a (placeOf a) m (other-plain a k l))) g
-
--- what is not refused has a picture that fits its panel
-pub step-fits : (s : State) (m p : List ℕ) (a : Access) (n : ℕ) → n ≡ statusOf s (length m) (length p) a → n ≡ 0 → fits s s (length p) ≡ true
-unfolding statusOf accessLines laterLines fits
-step-fits s m p a n en h =
-    let e : statusOf s (length m) (length p) a ≡ 0 = sym en ∙ h in
-    let one = not-false (isState s) (none-holds (accessLines s (length m) (length p) a) refl e 0) in
-    let two = not-false (eqb (length m) (s .fitted) && eqb (length p) (s .width * s .height)) (none-holds (accessLines s (length m) (length p) a) refl e 1) in
-    and-both (panelOk (s .width) (s .height)) (eqb (s .width) (s .width) && eqb (length p) (s .width * s .height))
-    (panel-of s (and-first (sizesOk (s .width) (s .height) (s .fitted) (s .once)) _ (sym (grouped s) ∙ one)))
-    (and-both (eqb (s .width) (s .width)) (eqb (length p) (s .width * s .height)) (eq-eqb (s .width) (s .width) refl)
-    (and-second (eqb (length m) (s .fitted)) (eqb (length p) (s .width * s .height)) two))
-
--- what a read answers: the state with the palette's address as the read leaves it
-read-state : (s : State) (a : Access) (p : Place) → withDac s (dacAfter (s .dac) a p) (s .palette) ≡ stateWith (readEffect a p) s
-unfolding withDac dacAfter stateWith readEffect
-read-state s a (Register i) = refl
-read-state s a Address = refl
-read-state s a PaletteData = by-bit (bit 0 (a .enables))
-  where
-    by-bit : (t : Bool) → withDac s (pick t (afterPeek (s .dac)) (s .dac)) (s .palette) ≡ stateWith (pick t readComponent idle) s
-    by-bit true = refl
-    by-bit false = refl
-read-state s a IndexedData = refl
-read-state s a (Window i) = refl
-read-state s a (Config i) = refl
-read-state s a Blank = refl
-read-state s a Nowhere = refl
-
-pub read-answer : (s : State) (a : Access) (m : List ℕ) (p : Place) (x : Seen) (d : Dac) (w k : ℕ)
-    → p ≡ placeOf a → x ≡ seenAt s m (a .offset) p → d ≡ dacAfter (s .dac) a p → w ≡ wordIn x (a .enables) → k ≡ knownIn x (a .enables)
-    → answered 0 w k 0 (withDac s d (s .palette))
-    ≡ answered 0 (wordIn (seenAt s m (a .offset) (placeOf a)) (a .enables)) (knownIn (seenAt s m (a .offset) (placeOf a)) (a .enables)) 0 (stateWith (readEffect a (placeOf a)) s)
-read-answer s a m p x d w k ep ex ed ew ek =
-    ap₂ (λ (y z : ℕ). answered 0 y z 0 (withDac s d (s .palette))) ew ek
-    ∙ ap₂ (λ (y : Seen) (z : State). answered 0 (wordIn y (a .enables)) (knownIn y (a .enables)) 0 z) ex (ap (λ (y : Dac). withDac s y (s .palette)) ed ∙ read-state s a p)
-    ∙ ap (λ (q : Place). answered 0 (wordIn (seenAt s m (a .offset) q) (a .enables)) (knownIn (seenAt s m (a .offset) q) (a .enables)) 0 (stateWith (readEffect a q) s)) ep
+  pub step-write : (l′ : List ℕ) → n ≡ 0 → (a .write ≡ 0 → ⊥) → (a .target ≡ 1 → ⊥) → (a .target ≡ 2 → ⊥)
+      → Gives (settled s m l (applied (portAt s a p .stored) s) m 0 0) r m l′ → Gives (stepOf s m l a) r m l′
+  unfolding memoryWith
+  step-write l′ h w k j g =
+      step-done _ m l′ h
+      (done-write s m l a p (f .place) m (writes a w)
+      (ap (λ (x : Place). putAll m (portAt s a x .stored .puts)) (f .place) ∙ ap (putAll m) (other-dry s a k j))) g

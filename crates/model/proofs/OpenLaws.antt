@@ -19,7 +19,8 @@ use Rattle.chip.specs.declared.Opened.{Opened}
 use Rattle.chip.specs.Dac.{resetDac}
 use Rattle.chip.specs.Palette.{emptyPalette}
 use Rattle.chip.specs.Sound.{panelOk, memoryOk}
-use Rattle.chip.specs.State.{regionResets, regionKnowns, headerResets, indirectResets, resetState}
+use Rattle.chip.specs.Bank.{bankResets, bankKnowns}
+use Rattle.chip.specs.State.{resetState}
 use Rattle.chip.specs.Refusal.{openingLines, openingStatus}
 use Rattle.chip.specs.Step.{Opening, Opens, blankWord, openOf}
 use Rattle.chip.proofs.Lines.{none-holds}
@@ -61,14 +62,12 @@ opens-dots w h ml pl n e z =
 
 -- ---- the reset state
 
-pub reset-of : (w h f : ℕ) (v k hd i : List ℕ) (d : Dac) (p : Palette)
-    → v ≡ regionResets → k ≡ regionKnowns → hd ≡ headerResets → i ≡ indirectResets → d ≡ resetDac → p ≡ emptyPalette
-    → (let s : State = record { width = w; height = h; fitted = f; once = 0; values = v; knowns = k; header = hd; indirect = i; dac = d; palette = p } in s) ≡ resetState w h f
+pub reset-of : (w h f : ℕ) (v k : List ℕ) (d : Dac) (p : Palette) → v ≡ bankResets → k ≡ bankKnowns → d ≡ resetDac → p ≡ emptyPalette
+    → (let s : State = record { width = w; height = h; fitted = f; once = 0; values = v; knowns = k; dac = d; palette = p } in s) ≡ resetState w h f
 unfolding resetState
-reset-of w h f v k hd i d p ev ek eh ei ed ep =
-    ap₂ (λ (x y : List ℕ). (let s : State = record { width = w; height = h; fitted = f; once = 0; values = x; knowns = y; header = hd; indirect = i; dac = d; palette = p } in s)) ev ek
-    ∙ ap₂ (λ (x y : List ℕ). (let s : State = record { width = w; height = h; fitted = f; once = 0; values = regionResets; knowns = regionKnowns; header = x; indirect = y; dac = d; palette = p } in s)) eh ei
-    ∙ ap₂ (λ (x : Dac) (y : Palette). (let s : State = record { width = w; height = h; fitted = f; once = 0; values = regionResets; knowns = regionKnowns; header = headerResets; indirect = indirectResets; dac = x; palette = y } in s)) ed ep
+reset-of w h f v k d p ev ek ed ep =
+    ap₂ (λ (x y : List ℕ). (let s : State = record { width = w; height = h; fitted = f; once = 0; values = x; knowns = y; dac = d; palette = p } in s)) ev ek
+    ∙ ap₂ (λ (x : Dac) (y : Palette). (let s : State = record { width = w; height = h; fitted = f; once = 0; values = bankResets; knowns = bankKnowns; dac = x; palette = y } in s)) ed ep
 
 -- ---- the fill
 

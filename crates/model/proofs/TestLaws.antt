@@ -9,16 +9,17 @@ use native.Mathlib.Omega.{arith}
 use borrow.Author.Tests.{lt-leb, le-leb, ne-eqb, eq-eqb}
 use lib.Dec.{eqb, leb}
 use Rattle.bits.specs.Choose.{pick}
-use Rattle.bits.proofs.Bools.{and-true}
+use Rattle.bits.proofs.Bools.{and-first}
 use Rattle.chip.specs.declared.Place.{Place}
 use Rattle.chip.specs.declared.State.{State}
 use Rattle.chip.specs.declared.Access.{Access}
 use Rattle.chip.specs.Place.{placeOf}
-use Rattle.chip.specs.Refusal.{Line, line, firstOf, isWrite, presentAt, wayAt, servedAt, laterLines, accessLines, statusOf}
-use Rattle.chip.specs.Sound.{panelOk, memoryOk, componentOk, addressOk, onceOk, regionSound, headerSound, indirectSound, isState}
+use Rattle.chip.specs.Port.{Port, portAt}
+use Rattle.chip.specs.Refusal.{Line, line, firstOf, isWrite, portOf, laterLines, accessLines, statusOf}
+use Rattle.chip.specs.Sound.{panelOk, memoryOk, componentOk, addressOk, onceOk, bankSound, isState}
 use Rattle.chip.specs.Palette.{paletteOk}
-use Rattle.model.specs.Parts.{sizesOk, tablesOk}
-use Rattle.model.specs.Stages.{placeLines, lentOk, formOk, laterFrom}
+use Rattle.model.specs.Parts.{sizesOk}
+use Rattle.model.specs.Stages.{placeLines, lentOk, formOk, laterFrom, statusFrom}
 
 -- a definition over places, at the place that was found
 pub at-place : {A : Type 0} (f : Place → A) (p q : Place) (r : A) → p ≡ q → r ≡ f q → r ≡ f p
@@ -48,67 +49,68 @@ line-hit n x t l p e = simp (sym p ∙ e)
 pub line-past : (n : ℕ) (x t : Bool) (l : List Line) (r : ℕ) → x ≡ t → x ≡ true → r ≡ firstOf l → r ≡ firstOf (line n (not t) ∷ l)
 line-past n x t l r p e h = h ∙ simp (sym p ∙ e)
 
--- lines 5, 6 and 7, at the place that was found
-module _ (s : State) (a : Access) (p : Place) (found : p ≡ placeOf a) (x : Bool) (ex : x ≡ presentAt s (a .offset) p) where
-  here : x ≡ presentAt s (a .offset) (placeOf a)
-  here = ex ∙ ap (presentAt s (a .offset)) found
-
-  pub line-five : x ≡ false → 5 ≡ firstOf (placeLines s a)
+-- lines 5, 6 and 7 of what a place is, and the lines from 3 on
+module _ (q : Port) (w : Bool) where
+  pub line-five : q .present ≡ false → 5 ≡ firstOf (placeLines q w)
   unfolding placeLines
-  line-five e = simp (sym here ∙ e)
+  line-five e = simp e
 
-  module _ (w : Bool) (ew : w ≡ isWrite a) (y : Bool) (ey : y ≡ wayAt s w p) (e : x ≡ true) where
-    this-way : y ≡ wayAt s (isWrite a) (placeOf a)
-    this-way = ey ∙ ap₂ (wayAt s) ew found
+  pub line-six : q .present ≡ true → pick w (q .writes) (q .reads) ≡ false → 6 ≡ firstOf (placeLines q w)
+  unfolding placeLines
+  line-six e f = simp (e, f)
 
-    pub line-six : y ≡ false → 6 ≡ firstOf (placeLines s a)
-    unfolding placeLines
-    line-six f = simp (sym here ∙ e, sym this-way ∙ f)
+  pub line-seven : q .present ≡ true → pick w (q .writes) (q .reads) ≡ true → q .served ≡ false → 7 ≡ firstOf (placeLines q w)
+  unfolding placeLines
+  line-seven e f g = simp (e, f, g)
 
-    module _ (z : Bool) (ez : z ≡ servedAt s p) (f : y ≡ true) where
-      this-mode : z ≡ servedAt s (placeOf a)
-      this-mode = ez ∙ ap (servedAt s) found
+  pub no-line : q .present ≡ true → pick w (q .writes) (q .reads) ≡ true → q .served ≡ true → 0 ≡ firstOf (placeLines q w)
+  unfolding placeLines
+  no-line e f g = simp (e, f, g)
 
-      pub line-seven : z ≡ false → 7 ≡ firstOf (placeLines s a)
-      unfolding placeLines
-      line-seven g = simp (sym here ∙ e, sym this-way ∙ f, sym this-mode ∙ g)
+-- the direction that is asked for
+pub way-yes : (w v x y z : Bool) → v ≡ w → v ≡ true → z ≡ x → pick w x y ≡ z
+way-yes w v x y z e t h = simp (sym e ∙ t) (sym h)
 
-      pub no-line : z ≡ true → 0 ≡ firstOf (placeLines s a)
-      unfolding placeLines
-      no-line g = simp (sym here ∙ e, sym this-way ∙ f, sym this-mode ∙ g)
+pub way-no : (w v x y z : Bool) → v ≡ w → v ≡ false → z ≡ y → pick w x y ≡ z
+way-no w v x y z e t h = simp (sym e ∙ t) (sym h)
 
--- the lines from 3 on
-module _ (s : State) (a : Access) (x : Bool) (ex : x ≡ formOk a) where
-  pub line-three : x ≡ false → 3 ≡ firstOf (laterFrom s a)
+module _ (q : Port) (a : Access) (x : Bool) (ex : x ≡ formOk a) where
+  pub line-three : x ≡ false → 3 ≡ firstOf (laterFrom q a)
   unfolding laterFrom
-  line-three e = line-hit 3 x (formOk a) (line 4 (not (eqb (a .offset % 4) 0)) ∷ placeLines s a) ex e
+  line-three e = line-hit 3 x (formOk a) (line 4 (not (eqb (a .offset % 4) 0)) ∷ placeLines q (isWrite a)) ex e
 
-  pub line-four : x ≡ true → (a .offset % 4 ≡ 0 → ⊥) → 4 ≡ firstOf (laterFrom s a)
+  pub line-four : x ≡ true → (a .offset % 4 ≡ 0 → ⊥) → 4 ≡ firstOf (laterFrom q a)
   unfolding laterFrom
   line-four e n =
-      line-past 3 x (formOk a) (line 4 (not (eqb (a .offset % 4) 0)) ∷ placeLines s a) 4 ex e
-      (line-hit 4 (eqb (a .offset % 4) 0) (eqb (a .offset % 4) 0) (placeLines s a) refl (ne-eqb (a .offset % 4) 0 n))
+      line-past 3 x (formOk a) (line 4 (not (eqb (a .offset % 4) 0)) ∷ placeLines q (isWrite a)) 4 ex e
+      (line-hit 4 (eqb (a .offset % 4) 0) (eqb (a .offset % 4) 0) (placeLines q (isWrite a)) refl (ne-eqb (a .offset % 4) 0 n))
 
-  pub after-four : (r : ℕ) → x ≡ true → a .offset % 4 ≡ 0 → r ≡ firstOf (placeLines s a) → r ≡ firstOf (laterFrom s a)
+  pub after-four : (r : ℕ) → x ≡ true → a .offset % 4 ≡ 0 → r ≡ firstOf (placeLines q (isWrite a)) → r ≡ firstOf (laterFrom q a)
   unfolding laterFrom
   after-four r e n h =
-      line-past 3 x (formOk a) (line 4 (not (eqb (a .offset % 4) 0)) ∷ placeLines s a) r ex e
-      (line-past 4 (eqb (a .offset % 4) 0) (eqb (a .offset % 4) 0) (placeLines s a) r refl (eq-eqb (a .offset % 4) 0 n) h)
+      line-past 3 x (formOk a) (line 4 (not (eqb (a .offset % 4) 0)) ∷ placeLines q (isWrite a)) r ex e
+      (line-past 4 (eqb (a .offset % 4) 0) (eqb (a .offset % 4) 0) (placeLines q (isWrite a)) r refl (eq-eqb (a .offset % 4) 0 n) h)
 
 -- all lines
-module _ (s : State) (ml pl : ℕ) (a : Access) (x : Bool) (ex : x ≡ isState s) where
-  pub line-one : x ≡ false → 1 ≡ statusOf s ml pl a
-  unfolding statusOf accessLines
-  line-one e = line-hit 1 x (isState s) (laterLines s ml pl a) ex e
+module _ (s : State) (ml pl : ℕ) (q : Port) (a : Access) (x : Bool) (ex : x ≡ isState s) where
+  pub line-one : x ≡ false → 1 ≡ statusFrom s ml pl q a
+  unfolding statusFrom
+  line-one e = line-hit 1 x (isState s) (line 2 (not (lentOk s ml pl)) ∷ laterFrom q a) ex e
 
   module _ (y : Bool) (ey : y ≡ lentOk s ml pl) (e : x ≡ true) where
-    pub line-two : y ≡ false → 2 ≡ statusOf s ml pl a
-    unfolding statusOf accessLines laterLines
-    line-two f = line-past 1 x (isState s) (laterLines s ml pl a) 2 ex e (simp (sym ey ∙ f))
+    pub line-two : y ≡ false → 2 ≡ statusFrom s ml pl q a
+    unfolding statusFrom
+    line-two f = line-past 1 x (isState s) (line 2 (not (lentOk s ml pl)) ∷ laterFrom q a) 2 ex e (line-hit 2 y (lentOk s ml pl) (laterFrom q a) ey f)
 
-    pub after-two : (r : ℕ) → y ≡ true → r ≡ firstOf (laterFrom s a) → r ≡ statusOf s ml pl a
-    unfolding statusOf accessLines laterLines laterFrom placeLines
-    after-two r f h = line-past 1 x (isState s) (laterLines s ml pl a) r ex e (line-past 2 y (lentOk s ml pl) (laterFrom s a) r ey f h)
+    pub after-two : (r : ℕ) → y ≡ true → r ≡ firstOf (laterFrom q a) → r ≡ statusFrom s ml pl q a
+    unfolding statusFrom
+    after-two r f h =
+        line-past 1 x (isState s) (line 2 (not (lentOk s ml pl)) ∷ laterFrom q a) r ex e (line-past 2 y (lentOk s ml pl) (laterFrom q a) r ey f h)
+
+-- at the place of the access they are the definition's
+pub status-is : (s : State) (ml pl : ℕ) (a : Access) (p : Place) → p ≡ placeOf s a → statusFrom s ml pl (portAt s a p) a ≡ statusOf s ml pl a
+unfolding statusFrom laterFrom placeLines statusOf accessLines laterLines portOf
+status-is s ml pl a p e = ap (λ (x : Place). statusFrom s ml pl (portAt s a x) a) e
 
 -- ---- two words multiplied fit in two words
 
@@ -131,36 +133,27 @@ pub memory-last : (f : ℕ) → f % 8 ≡ 0 → 8 ≤ f → leb f 8388608 ≡ me
 unfolding memoryOk
 memory-last f p q = simp (eq-eqb (f % 8) 0 p, le-leb 8 f q)
 
--- ---- refusal 1 in three groups
+-- ---- refusal 1 as the code groups and joins its tests
 
-nine : (a b c d e r : Bool) → (a && (b && (c && (d && (e && r))))) ≡ ((a && (b && e)) && ((c && d) && r))
-nine false b c d e r = refl
-nine true false c d e r = refl
-nine true true false d true r = refl
-nine true true true d true r = refl
-nine true true false d false r = refl
-nine true true true false false r = refl
-nine true true true true false r = refl
+grouped : (a b c d e f g : Bool) → ((((a && (b && e)) && (c && d)) && f) && g) ≡ (a && (b && (c && (d && (e && (f && (g && true)))))))
+grouped false b c d e f g = refl
+grouped true false c d e f g = refl
+grouped true true false d true f g = refl
+grouped true true false d false f g = refl
+grouped true true true false true f g = refl
+grouped true true true false false f g = refl
+grouped true true true true false f g = refl
+grouped true true true true true false g = refl
+grouped true true true true true true true = refl
+grouped true true true true true true false = refl
 
-pub grouped : (s : State) → isState s ≡ (sizesOk (s .width) (s .height) (s .fitted) (s .once) && ((componentOk (s .dac) && addressOk (s .dac)) && tablesOk s))
-unfolding isState sizesOk tablesOk
-grouped s =
-    nine (panelOk (s .width) (s .height)) (memoryOk (s .fitted)) (componentOk (s .dac)) (addressOk (s .dac)) (onceOk (s .once)) _
-    ∙ ap (λ (t : Bool). sizesOk (s .width) (s .height) (s .fitted) (s .once) && ((componentOk (s .dac) && addressOk (s .dac)) && (regionSound (s .values) (s .knowns) && (headerSound (s .once) (s .header) && (indirectSound (s .indirect) && t)))))
-    (and-true (paletteOk (s .palette)))
+pub all-tests : (s : State) (a b c d : Bool) → a ≡ sizesOk (s .width) (s .height) (s .fitted) (s .once) → b ≡ (componentOk (s .dac) && addressOk (s .dac))
+    → c ≡ bankSound (s .once) (s .values) (s .knowns) → d ≡ paletteOk (s .palette) → (((a && b) && c) && d) ≡ isState s
+unfolding sizesOk isState
+all-tests s a b c d p q u v =
+    ap₂ _&&_ (ap₂ _&&_ (ap₂ _&&_ p q) u) v
+    ∙ grouped (panelOk (s .width) (s .height)) (memoryOk (s .fitted)) (componentOk (s .dac)) (addressOk (s .dac)) (onceOk (s .once)) _ (paletteOk (s .palette))
 
--- .. and as the code joins them
-six : (a b c d e f : Bool) → (((((a && b) && c) && d) && e) && f) ≡ (a && (b && (c && (d && (e && f)))))
-six false b c d e f = refl
-six true false c d e f = refl
-six true true false d e f = refl
-six true true true false e f = refl
-six true true true true false f = refl
-six true true true true true f = refl
-
-pub all-tests : (s : State) (a b c d e f : Bool) → a ≡ sizesOk (s .width) (s .height) (s .fitted) (s .once) → b ≡ (componentOk (s .dac) && addressOk (s .dac))
-    → c ≡ regionSound (s .values) (s .knowns) → d ≡ headerSound (s .once) (s .header) → e ≡ indirectSound (s .indirect) → f ≡ paletteOk (s .palette)
-    → (((((a && b) && c) && d) && e) && f) ≡ isState s
-unfolding tablesOk
-all-tests s a b c d e f p q u v w x =
-    six a b c d e f ∙ ap₂ _&&_ p (ap₂ _&&_ q (ap₂ _&&_ u (ap₂ _&&_ v (ap₂ _&&_ w x)))) ∙ sym (grouped s)
+pub panel-of : (s : State) → isState s ≡ true → panelOk (s .width) (s .height) ≡ true
+unfolding isState
+panel-of s e = and-first (panelOk (s .width) (s .height)) _ e

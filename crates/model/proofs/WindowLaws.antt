@@ -17,6 +17,7 @@ use Rattle.bits.specs.Word.{laneByte}
 use Rattle.bits.proofs.Cases.{byTest, pick-by}
 use Rattle.chip.specs.declared.State.{State}
 use Rattle.chip.specs.declared.Access.{Access}
+use Rattle.chip.specs.declared.Answer.{Answer}
 use Rattle.chip.specs.Aperture.{Put, laneOf, putAt, putsOf, putAll}
 use Rattle.chip.specs.Units.{atByte}
 use Rattle.chip.specs.Picture.{dotByte, beyond, dotEntry, underByte, underAt, laidAt, wordAt, wordOf, chosen, redrawn, diffs}
@@ -26,7 +27,7 @@ use Rattle.picture.specs.Draw.{fits, Redraws}
 use Rattle.picture.specs.Poke.{Pokes}
 use Rattle.picture.proofs.Parts.{diffs-add, still-redraws}
 use Rattle.picture.proofs.FitLaws.{panel-product, fit-panel, fit-size}
-use Rattle.model.specs.Lanes.{laneIn, LaneIn}
+use Rattle.model.specs.Lanes.{laneIn, LaneIn, WindowIn}
 use Rattle.model.proofs.DoneLaws.{redraws-by, settles}
 
 -- ---- one lane
@@ -172,7 +173,7 @@ four-puts control a m =
     put-step control a 0 m _ ∙ put-step control a 1 _ _ ∙ put-step control a 2 _ _ ∙ put-step control a 3 _ []
 
 -- the lanes of one write, put together
-module _ (s : State) (control : ℕ) (a : Access) (m p : List ℕ) (r0 : ℕ) (m1 p1 : List ℕ) (r1 : ℕ) (m2 p2 : List ℕ) (r2 : ℕ) (m3 p3 : List ℕ) (r3 : ℕ) (m4 p4 : List ℕ)
+module _ {s : State} {control : ℕ} {a : Access} {m p : List ℕ} {r0 : ℕ} {m1 p1 : List ℕ} {r1 : ℕ} {m2 p2 : List ℕ} {r2 : ℕ} {m3 p3 : List ℕ} {r3 : ℕ} {m4 p4 : List ℕ}
     (l0 : LaneIn s control a 0 m p r0 m1 p1) (l1 : LaneIn s control a 1 m1 p1 r1 m2 p2) (l2 : LaneIn s control a 2 m2 p2 r2 m3 p3) (l3 : LaneIn s control a 3 m3 p3 r3 m4 p4) where
   together : Sofar s a 4 m p (r0 + r1 + r2 + r3) m4 p4
   together =
@@ -186,15 +187,25 @@ module _ (s : State) (control : ℕ) (a : Access) (m p : List ℕ) (r0 : ℕ) (m
   window-small f =
       omega (arith, sofar-few s a 4 m p (r0 + r1 + r2 + r3) m4 p4 together, fit-size s s (length p) f, mul-comm (s .width) (s .height), panel-product (s .width) (s .height) (fit-panel s s (length p) f))
 
-  pub window-done : (row : ℕ) → control ≡ getD (s .values) row 0
-      → Gives (settled s m p s (putAll m (putsOf (getD (s .values) row 0) (atByte (a .offset)) (a .enables) (a .word))) 0 0) (answered 0 0 0 (r0 + r1 + r2 + r3) s) m4 p4
-  window-done row ec =
-      let e : m4 ≡ putAll m (putsOf control (atByte (a .offset)) (a .enables) (a .word)) =
-      l3 .memory ∙ ap (laneIn control a 3) (l2 .memory ∙ ap (laneIn control a 2) (l1 .memory ∙ ap (laneIn control a 1) (l0 .memory))) ∙ sym (four-puts control a m) in
-      subst (λ (x : List ℕ). Gives (settled s m p s x 0 0) (answered 0 0 0 (r0 + r1 + r2 + r3) s) m4 p4)
-      (e ∙ ap (λ (c : ℕ). putAll m (putsOf c (atByte (a .offset)) (a .enables) (a .word))) ec)
-      (settles s m p s m4 0 0 (r0 + r1 + r2 + r3) p4 (together .drawn))
+  pub window-in : WindowIn s control a m p (r0 + r1 + r2 + r3) m4 p4
+  window-in =
+      record {
+        memory =
+            l3 .memory ∙ ap (laneIn control a 3) (l2 .memory ∙ ap (laneIn control a 2) (l1 .memory ∙ ap (laneIn control a 1) (l0 .memory)))
+            ∙ sym (four-puts control a m);
+        drawn = together .drawn;
+      }
 
-pub lane-fits : (s : State) (control : ℕ) (a : Access) (i : ℕ) (m p : List ℕ) (r : ℕ) (m′ p′ : List ℕ) → fits s s (length p) ≡ true → LaneIn s control a i m p r m′ p′
+-- a write through the aperture whose control register is in a row
+pub window-done : {s : State} {control : ℕ} {a : Access} {m p : List ℕ} {r : ℕ} {m′ p′ : List ℕ} → WindowIn s control a m p r m′ p′ → (row : ℕ) (x : Answer)
+    → control ≡ getD (s .values) row 0 → x ≡ answered 0 0 0 r s
+    → Gives (settled s m p s (putAll m (putsOf (getD (s .values) row 0) (atByte (a .offset)) (a .enables) (a .word))) 0 0) x m′ p′
+window-done {s} {control} {a} {m} {p} {r} {m′} {p′} k row x ec ex =
+    subst (λ (y : Answer). Gives (settled s m p s (putAll m (putsOf (getD (s .values) row 0) (atByte (a .offset)) (a .enables) (a .word))) 0 0) y m′ p′) (sym ex)
+    (subst (λ (y : List ℕ). Gives (settled s m p s y 0 0) (answered 0 0 0 r s) m′ p′)
+    (k .memory ∙ ap (λ (c : ℕ). putAll m (putsOf c (atByte (a .offset)) (a .enables) (a .word))) ec)
+    (settles s m p s m′ 0 0 r p′ (k .drawn)))
+
+pub lane-fits : {s : State} {control : ℕ} {a : Access} {i : ℕ} {m p : List ℕ} {r : ℕ} {m′ p′ : List ℕ} → fits s s (length p) ≡ true → LaneIn s control a i m p r m′ p′
     → fits s s (length p′) ≡ true
-lane-fits s control a i m p r m′ p′ f k = ap (fits s s) (lane-size s control a i m p r m′ p′ k) ∙ f
+lane-fits {s} {control} {a} {i} {m} {p} {r} {m′} {p′} f k = ap (fits s s) (lane-size s control a i m p r m′ p′ k) ∙ f

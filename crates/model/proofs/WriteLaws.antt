@@ -2,71 +2,61 @@
 -- The pieces put in place of their definitions. Assumes nothing.
 use Prim.Native.Nat.{ℕ}
 use mathlib.Core.Bool.{Bool, true, false}
-use mathlib.Core.Path.{_≡_, sym, ap, ap₂, _∙_}
+use mathlib.Core.Option.{Option, some, none, Option·getD}
+use mathlib.Core.Path.{_≡_, refl, sym, ap, ap₂, _∙_}
 use lib.Dec.{eqb}
-use borrow.Author.Tests.{eq-eqb, ne-eqb}
+use borrow.Author.Tests.{ne-eqb}
 use Rattle.bits.specs.Choose.{pick}
 use Rattle.bits.specs.Bit.{bit}
-use Rattle.bits.specs.Word.{inside, lanesOf, laneByte}
+use Rattle.bits.specs.Word.{laneByte}
 use Rattle.chip.specs.declared.State.{State}
 use Rattle.chip.specs.declared.Access.{Access}
-use Rattle.chip.specs.declared.Place.the-variants.{Register, Address, PaletteData, IndexedData, Config}
-use Rattle.chip.specs.Region.{regionRow}
-use Rattle.chip.specs.Header.{headerRow}
-use Rattle.chip.specs.Subsystem.{headerMoved, headerOnce}
-use Rattle.chip.specs.Indirect.{indirectEntry}
-use Rattle.chip.specs.Register.{movedBits, broughtWord}
-use Rattle.chip.specs.Palette.{keptAs}
-use Rattle.chip.specs.Effect.{Effect, idle, wroteRegister, wroteHeader, wroteIndirect, setAddress, wroteComponent, wide, stateWith, writeEffect}
+use Rattle.chip.specs.declared.Dac.{Dac}
+use Rattle.chip.specs.declared.Palette.{Palette}
+use Rattle.chip.specs.declared.Place.the-variants.{Address, PaletteData}
+use Rattle.chip.specs.Bank.{screenBase, screenStride, pixelMask, colorMode}
+use Rattle.chip.specs.Dac.{aimedAt, afterPeek, afterPaint, completedBy}
+use Rattle.chip.specs.Patch.{Patch, painted, applied}
+use Rattle.chip.specs.Port.{aimPatch, peekPatch, keptFrom, paintPatch, portAt}
 use Rattle.model.specs.Parts.{rowShows}
 
-pub effect-yes : (t b : Bool) (x y : Effect) (s r : State) → t ≡ b → t ≡ true → r ≡ stateWith x s → r ≡ stateWith (pick b x y) s
-effect-yes t b x y s r p e h = h ∙ sym (ap (λ (u : Bool). stateWith (pick u x y) s) (sym p ∙ e))
+-- a state with another RAMDAC and palette
+abbrev pub withDac : State → Dac → Palette → State
+withDac s d p =
+    record { width = s .width; height = s .height; fitted = s .fitted; once = s .once; values = s .values; knowns = s .knowns; dac = d; palette = p }
 
-pub effect-no : (t b : Bool) (x : Effect) (s : State) → t ≡ b → t ≡ false → s ≡ stateWith (pick b x idle) s
-unfolding stateWith
-effect-no t b x s p e = sym (ap (λ (u : Bool). stateWith (pick u x idle) s) (sym p ∙ e))
+module _ (s : State) (a : Access) (t : Bool) (et : t ≡ bit 0 (a .enables)) where
+  pub wrote-address : (v : ℕ) (d : Dac) → t ≡ true → v ≡ laneByte 0 (a .word) → d ≡ aimedAt v → withDac s d (s .palette) ≡ applied (portAt s a Address .stored) s
+  unfolding applied portAt aimPatch
+  wrote-address v d e ev ed =
+      ap (λ (x : Dac). withDac s x (s .palette)) (ed ∙ ap aimedAt ev) ∙ simp (sym et ∙ e)
 
-module _ (s : State) (a : Access) (r : State) where
-  pub wrote-register : (i lanes bits word : ℕ) → lanes ≡ lanesOf (a .enables) → bits ≡ movedBits (regionRow i) lanes (a .word) → word ≡ broughtWord (regionRow i) (a .word)
-      → r ≡ stateWith (wroteRegister i bits word) s → r ≡ stateWith (writeEffect s a (Register i)) s
-  unfolding writeEffect
-  wrote-register i lanes bits word p q u h =
-      h ∙ ap₂ (λ (b w : ℕ). stateWith (wroteRegister i b w) s) (q ∙ ap (λ (l : ℕ). movedBits (regionRow i) l (a .word)) p) u
+  pub no-address : t ≡ false → s ≡ applied (portAt s a Address .stored) s
+  unfolding applied portAt aimPatch
+  no-address e = simp (sym et ∙ e)
 
-  pub wrote-config : (i bits word once : ℕ) → bits ≡ headerMoved (s .once) i (a .enables) (a .word) → once ≡ headerOnce (s .once) i (a .enables) → word ≡ broughtWord (headerRow i) (a .word)
-      → r ≡ stateWith (wroteHeader i bits word once) s → r ≡ stateWith (writeEffect s a (Config i)) s
-  unfolding writeEffect
-  wrote-config i bits word once p q u h =
-      h ∙ ap₂ (λ (b w : ℕ). stateWith (wroteHeader i b w once) s) p u
-      ∙ ap (λ (o : ℕ). stateWith (wroteHeader i (headerMoved (s .once) i (a .enables) (a .word)) (broughtWord (headerRow i) (a .word)) o) s) q
+  pub wrote-palette : (v : ℕ) (d : Dac) (p : Palette) → t ≡ true → v ≡ keptFrom s a → d ≡ afterPaint (s .dac) v → p ≡ painted (completedBy (s .dac) v) (s .palette)
+      → withDac s d p ≡ applied (portAt s a PaletteData .stored) s
+  unfolding applied portAt paintPatch
+  wrote-palette v d p e ev ed ep =
+      ap₂ (withDac s) (ed ∙ ap (afterPaint (s .dac)) ev) (ep ∙ ap (λ (k : ℕ). painted (completedBy (s .dac) k) (s .palette)) ev) ∙ simp (sym et ∙ e)
 
-  pub wrote-indexed : (writable lanes bits : ℕ) → writable ≡ indirectEntry (s .dac .address) .writable → lanes ≡ lanesOf (a .enables) → bits ≡ inside lanes writable
-      → r ≡ stateWith (wroteIndirect (s .dac .address) bits (a .word)) s → r ≡ stateWith (writeEffect s a IndexedData) s
-  unfolding writeEffect
-  wrote-indexed writable lanes bits p q u h =
-      h ∙ ap (λ (b : ℕ). stateWith (wroteIndirect (s .dac .address) b (a .word)) s) (u ∙ ap₂ inside q p)
+  pub no-palette : t ≡ false → s ≡ applied (portAt s a PaletteData .stored) s
+  unfolding applied portAt paintPatch
+  no-palette e = simp (sym et ∙ e)
 
-  pub wrote-address : (t : Bool) (v : ℕ) → t ≡ bit 0 (a .enables) → t ≡ true → v ≡ laneByte 0 (a .word) → r ≡ stateWith (setAddress v) s
-      → r ≡ stateWith (writeEffect s a Address) s
-  unfolding writeEffect
-  wrote-address t v p e q h = effect-yes t _ _ _ s r p e (h ∙ ap (λ (k : ℕ). stateWith (setAddress k) s) q)
+-- the palette's pointer after a read
+module _ (d : Dac) (a : Access) (t : Bool) (et : t ≡ bit 0 (a .enables)) (s : State) (es : s .dac ≡ d) where
+  pub peeked-on : (r : Dac) → t ≡ true → r ≡ afterPeek d → r ≡ Option·getD (portAt s a PaletteData .peeked .dac) (s .dac)
+  unfolding portAt peekPatch
+  peeked-on r e h = h ∙ ap afterPeek (sym es) ∙ simp (sym et ∙ e)
 
-  pub wrote-palette : (t w : Bool) (v k : ℕ) → t ≡ bit 0 (a .enables) → t ≡ true → w ≡ wide s → v ≡ laneByte 0 (a .word) → k ≡ keptAs w v → r ≡ stateWith (wroteComponent k) s
-      → r ≡ stateWith (writeEffect s a PaletteData) s
-  unfolding writeEffect
-  wrote-palette t w v k p e u q z h =
-      effect-yes t _ _ _ s r p e (h ∙ ap (λ (n : ℕ). stateWith (wroteComponent n) s) (z ∙ ap₂ keptAs u q))
+  pub peeked-off : t ≡ false → d ≡ Option·getD (portAt s a PaletteData .peeked .dac) (s .dac)
+  unfolding portAt peekPatch
+  peeked-off e = sym es ∙ simp (sym et ∙ e)
 
--- the rows that the picture reads
-pub shows-first : (i : ℕ) → i ≡ 16 → true ≡ rowShows i
+-- ---- the rows that the picture reads
+
+pub shows-last : (i : ℕ) → (i ≡ screenBase → ⊥) → (i ≡ screenStride → ⊥) → (i ≡ pixelMask → ⊥) → eqb i colorMode ≡ rowShows i
 unfolding rowShows
-shows-first i e = simp (eq-eqb i 16 e)
-
-pub shows-second : (i : ℕ) → (i ≡ 16 → ⊥) → i ≡ 17 → true ≡ rowShows i
-unfolding rowShows
-shows-second i n e = simp (ne-eqb i 16 n, eq-eqb i 17 e)
-
-pub shows-last : (i : ℕ) → (i ≡ 16 → ⊥) → (i ≡ 17 → ⊥) → eqb i 33 ≡ rowShows i
-unfolding rowShows
-shows-last i n e = simp (ne-eqb i 16 n, ne-eqb i 17 e)
+shows-last i a b c = simp (ne-eqb i screenBase a, ne-eqb i screenStride b, ne-eqb i pixelMask c)

@@ -1,4 +1,4 @@
--- One lane of a write through an aperture.
+-- One lane of a write through an aperture, and the four together.
 use Prim.Native.Nat.{ℕ, _+_}
 use mathlib.Core.Bool.{true}
 use mathlib.Core.List.{List}
@@ -9,7 +9,8 @@ use Rattle.bits.specs.Bit.{bit}
 use Rattle.bits.specs.Word.{laneByte}
 use Rattle.chip.specs.declared.State.{State}
 use Rattle.chip.specs.declared.Access.{Access}
-use Rattle.chip.specs.Aperture.{laneOf}
+use Rattle.chip.specs.Units.{atByte}
+use Rattle.chip.specs.Aperture.{laneOf, putsOf, putAll}
 use Rattle.chip.specs.Picture.{wordOf}
 use Rattle.picture.specs.Draw.{Redraws}
 
@@ -21,3 +22,8 @@ laneIn control a i m =
 pub record LaneIn (s : State) (control : ℕ) (a : Access) (i : ℕ) (m p : List ℕ) (r : ℕ) (m′ p′ : List ℕ) : Type 0 where
   pub memory : m′ ≡ laneIn control a i m
   pub drawn : Redraws true (wordOf s m) (wordOf s (laneIn control a i m)) p r p′
+
+-- the four lanes of a write: memory takes what the definition stores, and the dots that show it are redrawn
+pub record WindowIn (s : State) (control : ℕ) (a : Access) (m p : List ℕ) (r : ℕ) (m′ p′ : List ℕ) : Type 0 where
+  pub memory : m′ ≡ putAll m (putsOf control (atByte (a .offset)) (a .enables) (a .word))
+  pub drawn : Redraws true (wordOf s m) (wordOf s m′) p r p′

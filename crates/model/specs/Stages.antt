@@ -3,17 +3,16 @@ use Prim.Native.Nat.{ℕ, _*_, _%_}
 use mathlib.Core.Bool.{Bool, not, _&&_}
 use mathlib.Core.List.{List, [], _∷_}
 use lib.Dec.{eqb, leb}
+use Rattle.bits.specs.Choose.{pick}
 use Rattle.chip.specs.declared.State.{State}
 use Rattle.chip.specs.declared.Access.{Access}
-use Rattle.chip.specs.Place.{placeOf}
-use Rattle.chip.specs.Refusal.{Line, line, isWrite, presentAt, wayAt, servedAt}
+use Rattle.chip.specs.Port.{Port}
+use Rattle.chip.specs.Refusal.{Line, line, firstOf, isWrite}
+use Rattle.chip.specs.Sound.{isState}
 
-unfoldable pub placeLines : State → Access → List Line
-placeLines s a =
-    line 5 (not (presentAt s (a .offset) (placeOf a)))
-    ∷ line 6 (not (wayAt s (isWrite a) (placeOf a)))
-    ∷ line 7 (not (servedAt s (placeOf a)))
-    ∷ []
+-- lines 5, 6 and 7, of what the place is and the direction
+unfoldable pub placeLines : Port → Bool → List Line
+placeLines q w = line 5 (not (q .present)) ∷ line 6 (not (pick w (q .writes) (q .reads))) ∷ line 7 (not (q .served)) ∷ []
 
 abbrev pub lentOk : State → ℕ → ℕ → Bool
 lentOk s ml pl = eqb ml (s .fitted) && eqb pl (s .width * s .height)
@@ -21,5 +20,9 @@ lentOk s ml pl = eqb ml (s .fitted) && eqb pl (s .width * s .height)
 abbrev pub formOk : Access → Bool
 formOk a = leb (a .target) 3 && leb (a .enables) 15
 
-unfoldable pub laterFrom : State → Access → List Line
-laterFrom s a = line 3 (not (formOk a)) ∷ line 4 (not (eqb (a .offset % 4) 0)) ∷ placeLines s a
+unfoldable pub laterFrom : Port → Access → List Line
+laterFrom q a = line 3 (not (formOk a)) ∷ line 4 (not (eqb (a .offset % 4) 0)) ∷ placeLines q (isWrite a)
+
+-- all of them
+unfoldable pub statusFrom : State → ℕ → ℕ → Port → Access → ℕ
+statusFrom s ml pl q a = firstOf (line 1 (not (isState s)) ∷ line 2 (not (lentOk s ml pl)) ∷ laterFrom q a)

@@ -2,14 +2,10 @@
 ghost use mathlib.Core.Path.{_≡_};
 ghost use Prim.Native.Nat.{_≤_};
 ghost use lib.ListN.{length, replicate};
-ghost use Rattle.chip.specs.Dac.{resetDac};
-ghost use Rattle.chip.specs.Palette.{emptyPalette};
 ghost use Rattle.chip.specs.State.{resetState};
 ghost use Rattle.chip.specs.Refusal.{openingStatus};
 ghost use Rattle.chip.specs.Step.{blankWord, openOf, Opens};
-use chip::Dac;
 use chip::Opened;
-use chip::Palette;
 use chip::State;
 
 // The number of the refusal, or 0, in the order 8, 9, 2.
@@ -28,39 +24,13 @@ fn open_status(width: u32, height: u32, memory: u64, picture: u64) -> u32
     0
 }
 
-fn reset_dac() -> Dac
-    ensures { λ r. ⌜ r ≡ resetDac ⌝ }
-{
-    Dac {
-        address: 0,
-        known: 0,
-        component: 0,
-        staged: 0,
-        red: 0,
-        green: 0,
-    }
-}
-
-fn empty_palette() -> Palette
-    ensures { λ r. ⌜ r ≡ emptyPalette ⌝ }
-{
-    Palette {
-        red: [0u8; 256],
-        green: [0u8; 256],
-        blue: [0u8; 256],
-        stored: [0u8; 256],
-    }
-}
-
 fn reset_state(width: u32, height: u32, fitted: u32) -> State
     ensures { λ r. ⌜ r ≡ resetState width height fitted ⌝ }
 {
-    let values = registers::region::region_resets();
-    let knowns = registers::region::region_knowns();
-    let header = registers::header::header_resets();
-    let indirect = registers::indirect::indirect_resets();
-    let dac = reset_dac();
-    let palette = empty_palette();
+    let values = registers::bank::bank_resets();
+    let knowns = registers::bank::bank_knowns();
+    let dac = palette::dac::reset_dac();
+    let palette = palette::entries::empty_palette();
     State {
         width,
         height,
@@ -68,8 +38,6 @@ fn reset_state(width: u32, height: u32, fitted: u32) -> State
         once: 0,
         values,
         knowns,
-        header,
-        indirect,
         dac,
         palette,
     }

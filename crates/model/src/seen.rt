@@ -1,70 +1,60 @@
 // What a read sees before its lanes are picked.
 ghost use mathlib.Core.Path.{_≡_};
 ghost use mathlib.Core.List.{[]};
-ghost use Rattle.chip.specs.declared.Place.the-variants.{Register, IndexedData, Window, Config};
-ghost use Rattle.chip.specs.Effect.{seenAt, knownIn, wordIn};
-use crate::held::header_value;
-use crate::held::index_value;
-use crate::held::row_of;
+ghost use Rattle.chip.specs.declared.Place.the-variants.{Register, PaletteData, Window};
+ghost use Rattle.chip.specs.Port.{knownIn, wordIn, wide, portAt};
+use chip::Access;
+use chip::MISC_CONTROL;
 use chip::Place;
 use chip::Seen;
 use chip::State;
+use registers::bank::held;
 
-fn seen_register(s: State, i: usize) -> Seen
-    ensures { λ r. ⌜ r ≡ seenAt s [] 0 (Register i) ⌝ }
+fn seen_register(s: State, a: Access, i: usize) -> Seen
+    ensures { λ r. ⌜ r ≡ portAt s a (Register i) .seen [] ⌝ }
 {
-    let values = s.values;
-    let knowns = s.knowns;
     Seen {
-        value: row_of(values, i),
-        known: row_of(knowns, i),
+        value: held(&s.values, i),
+        known: held(&s.knowns, i),
     }
 }
 
-fn seen_indexed(s: State) -> Seen
-    ensures { λ r. ⌜ r ≡ seenAt s [] 0 IndexedData ⌝ }
+// PaletteWidth, bit 1 of RDMiscControl: 8 bits where it is set, else 6.
+pub(crate) fn palette_wide(s: State) -> bool
+    ensures { λ r. ⌜ r ≡ wide s ⌝ }
 {
-    let i = s.dac.address;
-    let indirect = s.indirect;
-    Seen {
-        value: index_value(indirect, i) as u32,
-        known: registers::indirect::index_known(i) as u32,
-    }
+    bits::bit_of(1, held(&s.values, MISC_CONTROL))
 }
 
-fn seen_window<'a>(s: State, memory: &'a [u8], o: u32, i: usize) -> Seen
-    ensures { λ r. ⌜ r ≡ seenAt s (now (memory .entry)) o (Window i) ⌝ }
+fn seen_data(s: State, a: Access) -> Seen
+    ensures { λ r. ⌜ r ≡ portAt s a PaletteData .seen [] ⌝ }
 {
-    let values = s.values;
+    let wide = palette_wide(s);
+    let p = s.palette;
+    palette::entries::seen_palette(wide, s.dac, p)
+}
+
+fn seen_window<'a>(s: State, a: Access, i: usize, memory: &'a [u8]) -> Seen
+    ensures { λ r. ⌜ r ≡ portAt s a (Window i) .seen (now (memory .entry)) ⌝ }
+{
+    let control = held(&s.values, i);
     Seen {
-        value: aperture::word_from(row_of(values, i), memory, o),
+        value: aperture::word_from(control, memory, a.offset),
         known: 0xFFFFFFFF,
     }
 }
 
-fn seen_config(s: State, i: usize) -> Seen
-    ensures { λ r. ⌜ r ≡ seenAt s [] 0 (Config i) ⌝ }
-{
-    let header = s.header;
-    Seen {
-        value: header_value(header, i),
-        known: registers::header::header_known(i),
-    }
-}
-
-pub(crate) fn seen_at<'a>(s: State, memory: &'a [u8], o: u32, p: Place) -> Seen
-    ensures { λ r. ⌜ r ≡ seenAt s (now (memory .entry)) o p ⌝ }
+pub(crate) fn seen_at<'a>(s: State, a: Access, p: Place, memory: &'a [u8]) -> Seen
+    ensures { λ r. ⌜ r ≡ portAt s a p .seen (now (memory .entry)) ⌝ }
 {
     match p {
-        Place::Register(i) => seen_register(s, i),
+        Place::Register(i) => seen_register(s, a, i),
         Place::Address => Seen {
             value: s.dac.address as u32,
             known: s.dac.known as u32,
         },
-        Place::PaletteData => palette::entries::seen_palette(s),
-        Place::IndexedData => seen_indexed(s),
-        Place::Window(i) => seen_window(s, memory, o, i),
-        Place::Config(i) => seen_config(s, i),
+        Place::PaletteData => seen_data(s, a),
+        Place::Window(i) => seen_window(s, a, i, memory),
         Place::Blank => Seen {
             value: 0,
             known: 0xFFFFFFFF,

@@ -32,9 +32,7 @@ pub(crate) fn is_state(s: State) -> bool
 {
     sizes_ok(s.width, s.height, s.fitted, s.once)
         & palette::dac::dac_sound(s.dac)
-        & registers::region::region_sound(&s.values, &s.knowns)
-        & registers::header::header_sound(s.once, &s.header)
-        & registers::indirect::indirect_sound(&s.indirect)
+        & registers::bank::bank_sound(s.once, &s.values, &s.knowns)
         & palette::entries::palette_sound(
             &s.palette.red,
             &s.palette.green,

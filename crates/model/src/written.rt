@@ -1,72 +1,72 @@
-// The state after a write at a place, and whether the picture may show it.
+// The state after a write at a place, the palette's pointer after a read, and whether the picture may show a write.
 ghost use mathlib.Core.Path.{_≡_};
-ghost use Rattle.chip.specs.declared.Place.the-variants.{Address, PaletteData, IndexedData};
-ghost use Rattle.chip.specs.Effect.{stateWith, writeEffect};
-ghost use Rattle.model.specs.Parts.{dacAfter, rowShows, mayShow};
+ghost use mathlib.Core.Option.{Option·getD};
+ghost use Rattle.chip.specs.declared.State.{State};
+ghost use Rattle.chip.specs.declared.Place.the-variants.{Address, PaletteData};
+ghost use Rattle.chip.specs.Patch.{applied};
+ghost use Rattle.chip.specs.Port.{portAt, keptFrom};
+ghost use Rattle.model.specs.Parts.{rowShows, QuietUnless};
 use bits::bit_of;
 use bits::lane_byte;
-use bits::lanes_of;
 use chip::Access;
+use chip::COLOR_MODE;
 use chip::Dac;
+use chip::PIXEL_MASK;
 use chip::Place;
+use chip::SCREEN_BASE;
+use chip::SCREEN_STRIDE;
 use chip::State;
 
 fn write_address(s: State, a: Access) -> State
-    ensures { λ r. ⌜ r ≡ stateWith (writeEffect s a Address) s ⌝ }
+    ensures { λ r. ⌜ r ≡ applied (portAt s a Address .stored) s ⌝ }
 {
     if bit_of(0, a.enables) {
-        return palette::entries::aimed(s, lane_byte(0, a.word));
+        let d = palette::dac::aimed_at(lane_byte(0, a.word));
+        let mut n = s;
+        n.dac = d;
+        return n;
     }
     s
+}
+
+// The byte of a palette data write, as the width has it stored.
+fn kept_from(s: State, a: Access) -> u8
+    ensures { λ r. ⌜ r ≡ keptFrom s a ⌝ }
+{
+    palette::entries::kept_as(crate::seen::palette_wide(s), lane_byte(0, a.word))
 }
 
 fn write_palette(s: State, a: Access) -> State
-    ensures { λ r. ⌜ r ≡ stateWith (writeEffect s a PaletteData) s ⌝ }
+    ensures { λ r. ⌜ r ≡ applied (portAt s a PaletteData .stored) s ⌝ }
 {
     if bit_of(0, a.enables) {
-        let wide = palette::entries::palette_wide(s);
-        return palette::entries::painted(s, palette::entries::kept_as(wide, lane_byte(0, a.word)));
+        let v = kept_from(s, a);
+        let d = palette::dac::after_paint(s.dac, v);
+        let p = s.palette;
+        let q = palette::entries::palette_after(s.dac, p, v);
+        let mut n = s;
+        n.dac = d;
+        n.palette = q;
+        return n;
     }
     s
 }
 
-fn write_indexed(s: State, a: Access) -> State
-    ensures { λ r. ⌜ r ≡ stateWith (writeEffect s a IndexedData) s ⌝ }
-{
-    let i = s.dac.address;
-    let writable = registers::indirect::index_writable(i) as u32;
-    let bits = bits::bits_inside(lanes_of(a.enables), writable);
-    registers::indirect::with_indirect(s, i, bits as u8, a.word)
-}
-
 pub(crate) fn written_at(s: State, a: Access, p: Place) -> State
-    ensures { λ r. ⌜ r ≡ stateWith (writeEffect s a p) s ⌝ }
+    ensures { λ r. ⌜ r ≡ applied (portAt s a p .stored) s ⌝ }
 {
     match p {
-        Place::Register(i) => registers::region::with_register(
-            s,
-            i,
-            registers::region::region_moved(i, lanes_of(a.enables), a.word),
-            registers::region::region_brought(i, a.word),
-        ),
+        Place::Register(i) => registers::bank::with_row(s, i, a),
         Place::Address => write_address(s, a),
         Place::PaletteData => write_palette(s, a),
-        Place::IndexedData => write_indexed(s, a),
         Place::Window(i) => s,
-        Place::Config(i) => registers::header::with_header(
-            s,
-            i,
-            registers::header::header_moved(s.once, i, a.enables, a.word),
-            registers::header::header_brought(i, a.word),
-            registers::header::header_once(s.once, i, a.enables),
-        ),
         Place::Blank => s,
         Place::Nowhere => s,
     }
 }
 
 fn dac_peeked(d: Dac, a: Access) -> Dac
-    ensures { λ r. ⌜ r ≡ dacAfter d a PaletteData ⌝ }
+    ensures { λ r. ⌜ ((s : State) → s .dac ≡ d → r ≡ Option·getD (portAt s a PaletteData .peeked .dac) (s .dac)) ⌝ }
 {
     if bit_of(0, a.enables) {
         return palette::dac::after_peek(d);
@@ -76,15 +76,13 @@ fn dac_peeked(d: Dac, a: Access) -> Dac
 
 // A read alters the palette's address, component and stage, and nothing else: so the state is made anew once, where it is answered.
 pub(crate) fn dac_after(d: Dac, a: Access, p: Place) -> Dac
-    ensures { λ r. ⌜ r ≡ dacAfter d a p ⌝ }
+    ensures { λ r. ⌜ ((s : State) → s .dac ≡ d → r ≡ Option·getD (portAt s a p .peeked .dac) (s .dac)) ⌝ }
 {
     match p {
         Place::Register(i) => d,
         Place::Address => d,
         Place::PaletteData => dac_peeked(d, a),
-        Place::IndexedData => d,
         Place::Window(i) => d,
-        Place::Config(i) => d,
         Place::Blank => d,
         Place::Nowhere => d,
     }
@@ -93,25 +91,27 @@ pub(crate) fn dac_after(d: Dac, a: Access, p: Place) -> Dac
 fn row_shows(i: usize) -> bool
     ensures { λ r. ⌜ r ≡ rowShows i ⌝ }
 {
-    if i == 16 {
+    if i == SCREEN_BASE {
         return true;
     }
-    if i == 17 {
+    if i == SCREEN_STRIDE {
         return true;
     }
-    i == 33
+    if i == PIXEL_MASK {
+        return true;
+    }
+    i == COLOR_MODE
 }
 
-pub(crate) fn may_show(s: State, p: Place) -> bool
-    ensures { λ r. ⌜ r ≡ mayShow s p ⌝ }
+// A write to what the picture reads of the bank, and a palette entry's completion.
+pub(crate) fn may_show(d: Dac, p: Place) -> bool
+    ensures { λ r. ⌜ QuietUnless r d p ⌝ }
 {
     match p {
         Place::Register(i) => row_shows(i),
         Place::Address => false,
-        Place::PaletteData => palette::dac::completes(s.dac),
-        Place::IndexedData => s.dac.address == 0x18,
+        Place::PaletteData => palette::dac::completes(d),
         Place::Window(i) => false,
-        Place::Config(i) => false,
         Place::Blank => false,
         Place::Nowhere => false,
     }

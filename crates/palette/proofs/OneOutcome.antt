@@ -15,9 +15,6 @@ use Rattle.palette.proofs.dac.after_peek.Kinds as after-peek-kinds
 use Rattle.palette.proofs.dac.after_paint as after-paint
 use Rattle.palette.proofs.dac.after_paint.Reads as after-paint-reads
 use Rattle.palette.proofs.dac.after_paint.Kinds as after-paint-kinds
-use Rattle.palette.proofs.dac.address_known as address-known
-use Rattle.palette.proofs.dac.address_known.Reads as address-known-reads
-use Rattle.palette.proofs.dac.address_known.Kinds as address-known-kinds
 use Rattle.palette.proofs.dac.completes as completes
 use Rattle.palette.proofs.dac.completes.Reads as completes-reads
 use Rattle.palette.proofs.dac.completes.Kinds as completes-kinds
@@ -42,18 +39,18 @@ use Rattle.palette.proofs.entries.part_of.Kinds as part-of-kinds
 use Rattle.palette.proofs.entries.palette_sound as palette-sound
 use Rattle.palette.proofs.entries.palette_sound.Reads as palette-sound-reads
 use Rattle.palette.proofs.entries.palette_sound.Kinds as palette-sound-kinds
-use Rattle.palette.proofs.entries.palette_wide as palette-wide
-use Rattle.palette.proofs.entries.palette_wide.Reads as palette-wide-reads
-use Rattle.palette.proofs.entries.palette_wide.Kinds as palette-wide-kinds
 use Rattle.palette.proofs.entries.seen_palette as seen-palette
 use Rattle.palette.proofs.entries.seen_palette.Reads as seen-palette-reads
 use Rattle.palette.proofs.entries.seen_palette.Kinds as seen-palette-kinds
-use Rattle.palette.proofs.entries.aimed as aimed
-use Rattle.palette.proofs.entries.aimed.Reads as aimed-reads
-use Rattle.palette.proofs.entries.aimed.Kinds as aimed-kinds
-use Rattle.palette.proofs.entries.painted as painted
-use Rattle.palette.proofs.entries.painted.Reads as painted-reads
-use Rattle.palette.proofs.entries.painted.Kinds as painted-kinds
+use Rattle.palette.proofs.dac.reset_dac as reset-dac
+use Rattle.palette.proofs.dac.reset_dac.Reads as reset-dac-reads
+use Rattle.palette.proofs.dac.reset_dac.Kinds as reset-dac-kinds
+use Rattle.palette.proofs.entries.palette_after as palette-after
+use Rattle.palette.proofs.entries.palette_after.Reads as palette-after-reads
+use Rattle.palette.proofs.entries.palette_after.Kinds as palette-after-kinds
+use Rattle.palette.proofs.entries.empty_palette as empty-palette
+use Rattle.palette.proofs.entries.empty_palette.Reads as empty-palette-reads
+use Rattle.palette.proofs.entries.empty_palette.Kinds as empty-palette-kinds
 
 pub aimed-at-one : (κs : Lfts 0) (a : ArgsD aimed-at.signature κs) (r r′ : ResD aimed-at.signature κs)
     (x x′ : AtExit (kinds.endedOf 0 aimed-at-kinds.ps aimed-at-kinds.r) κs)
@@ -69,11 +66,6 @@ pub after-paint-one : (κs : Lfts 0) (a : ArgsD after-paint.signature κs) (r r�
     (x x′ : AtExit (kinds.endedOf 0 after-paint-kinds.ps after-paint-kinds.r) κs)
     → after-paint-reads.Post κs a r x → after-paint-reads.Post κs a r′ x′ → r ≡ r′
 after-paint-one κs a r r′ x x′ p q = same-value p q
-
-pub address-known-one : (κs : Lfts 0) (a : ArgsD address-known.signature κs) (r r′ : ResD address-known.signature κs)
-    (x x′ : AtExit (kinds.endedOf 0 address-known-kinds.ps address-known-kinds.r) κs)
-    → address-known-reads.Post κs a r x → address-known-reads.Post κs a r′ x′ → r ≡ r′
-address-known-one κs a r r′ x x′ p q = same-value p q
 
 pub completes-one : (κs : Lfts 0) (a : ArgsD completes.signature κs) (r r′ : ResD completes.signature κs)
     (x x′ : AtExit (kinds.endedOf 0 completes-kinds.ps completes-kinds.r) κs)
@@ -115,22 +107,22 @@ pub palette-sound-one : (κs : Lfts 1) (a : ArgsD palette-sound.signature κs) (
     → palette-sound-reads.Post κs a r x → palette-sound-reads.Post κs a r′ x′ → r ≡ r′
 palette-sound-one κs a r r′ x x′ p q = same-value p q
 
-pub palette-wide-one : (κs : Lfts 0) (a : ArgsD palette-wide.signature κs) (r r′ : ResD palette-wide.signature κs)
-    (x x′ : AtExit (kinds.endedOf 0 palette-wide-kinds.ps palette-wide-kinds.r) κs)
-    → palette-wide-reads.Post κs a r x → palette-wide-reads.Post κs a r′ x′ → r ≡ r′
-palette-wide-one κs a r r′ x x′ p q = same-value p q
-
 pub seen-palette-one : (κs : Lfts 0) (a : ArgsD seen-palette.signature κs) (r r′ : ResD seen-palette.signature κs)
     (x x′ : AtExit (kinds.endedOf 0 seen-palette-kinds.ps seen-palette-kinds.r) κs)
     → seen-palette-reads.Post κs a r x → seen-palette-reads.Post κs a r′ x′ → r ≡ r′
 seen-palette-one κs a r r′ x x′ p q = same-value p q
 
-pub aimed-one : (κs : Lfts 0) (a : ArgsD aimed.signature κs) (r r′ : ResD aimed.signature κs)
-    (x x′ : AtExit (kinds.endedOf 0 aimed-kinds.ps aimed-kinds.r) κs)
-    → aimed-reads.Post κs a r x → aimed-reads.Post κs a r′ x′ → r ≡ r′
-aimed-one κs a r r′ x x′ p q = same-value p q
+pub reset-dac-one : (κs : Lfts 0) (a : ArgsD reset-dac.signature κs) (r r′ : ResD reset-dac.signature κs)
+    (x x′ : AtExit (kinds.endedOf 0 reset-dac-kinds.ps reset-dac-kinds.r) κs)
+    → reset-dac-reads.Post κs a r x → reset-dac-reads.Post κs a r′ x′ → r ≡ r′
+reset-dac-one κs a r r′ x x′ p q = same-value p q
 
-pub painted-one : (κs : Lfts 0) (a : ArgsD painted.signature κs) (r r′ : ResD painted.signature κs)
-    (x x′ : AtExit (kinds.endedOf 0 painted-kinds.ps painted-kinds.r) κs)
-    → painted-reads.Post κs a r x → painted-reads.Post κs a r′ x′ → r ≡ r′
-painted-one κs a r r′ x x′ p q = same-value p q
+pub palette-after-one : (κs : Lfts 0) (a : ArgsD palette-after.signature κs) (r r′ : ResD palette-after.signature κs)
+    (x x′ : AtExit (kinds.endedOf 0 palette-after-kinds.ps palette-after-kinds.r) κs)
+    → palette-after-reads.Post κs a r x → palette-after-reads.Post κs a r′ x′ → r ≡ r′
+palette-after-one κs a r r′ x x′ p q = same-value p q
+
+pub empty-palette-one : (κs : Lfts 0) (a : ArgsD empty-palette.signature κs) (r r′ : ResD empty-palette.signature κs)
+    (x x′ : AtExit (kinds.endedOf 0 empty-palette-kinds.ps empty-palette-kinds.r) κs)
+    → empty-palette-reads.Post κs a r x → empty-palette-reads.Post κs a r′ x′ → r ≡ r′
+empty-palette-one κs a r r′ x x′ p q = same-value p q

@@ -1,18 +1,15 @@
-// The palette's entries, how a component is kept and shown, and the state after a palette access.
-use crate::dac::after_paint;
-use crate::dac::aimed_at;
+// The palette's entries, how a component is kept and shown, and the palette after a component was written.
 use crate::dac::completes;
-use bits::bit_of;
 use chip::Colour;
+use chip::Dac;
 use chip::Palette;
 use chip::Seen;
-use chip::State;
 ghost use mathlib.Core.Path.{_≡_};
-ghost use mathlib.Core.List.{[]};
 ghost use lib.Dec.{eqb};
-ghost use Rattle.chip.specs.Palette.{entryOf, storeEntry, keptAs, shownAs, partOf, paletteOk};
-ghost use Rattle.chip.specs.Effect.{wide, seenAt, stateWith, setAddress, wroteComponent};
-ghost use Rattle.chip.specs.declared.Place.the-variants.{PaletteData};
+ghost use Rattle.chip.specs.Palette.{emptyPalette, entryOf, storeEntry, keptAs, shownAs, partOf, paletteOk};
+ghost use Rattle.chip.specs.Dac.{completedBy};
+ghost use Rattle.chip.specs.Patch.{painted};
+ghost use Rattle.chip.specs.Port.{seenPart};
 ghost use Rattle.palette.specs.Entry.{foundOf, entryFine};
 
 // What a palette entry holds: nothing, where it was never stored, or a colour.
@@ -112,25 +109,15 @@ pub fn palette_sound<'a>(
     faults == 0
 }
 
-// PaletteWidth, bit 1 of RDMiscControl (1Eh): 8 bits where it is set, else 6.
-pub fn palette_wide(s: State) -> bool
-    ensures { λ r. ⌜ r ≡ wide s ⌝ }
-{
-    let control = s.indirect[0x1E];
-    bit_of(1, wide_of(control))
-}
-
 // What a palette data read sees: a component as the width shows it, and eight unknown bits of an entry never stored.
-pub fn seen_palette(s: State) -> Seen
-    ensures { λ r. ⌜ r ≡ seenAt s [] 0 PaletteData ⌝ }
+pub fn seen_palette(wide: bool, d: Dac, p: Palette) -> Seen
+    ensures { λ r. ⌜ r ≡ seenPart wide (d .component) (entryOf p (d .address)) ⌝ }
 {
-    let d = s.dac;
-    let p = s.palette;
     let f = entry_of(p, d.address);
     match f {
         Found::Never => Seen { value: 0, known: 0 },
         Found::Stored(x) => {
-            let shown = shown_as(palette_wide(s), part_of(d.component, x));
+            let shown = shown_as(wide, part_of(d.component, x));
             Seen {
                 value: wide_of(shown),
                 known: 0xFF,
@@ -139,33 +126,29 @@ pub fn seen_palette(s: State) -> Seen
     }
 }
 
-// The state after the palette address was set to v.
-pub fn aimed(s: State, v: u8) -> State
-    ensures { λ r. ⌜ r ≡ stateWith (setAddress v) s ⌝ }
+// The palette after byte v, as it is stored, was written to a component: only the third, after the two before it, stores an entry.
+pub fn palette_after(d: Dac, p: Palette, v: u8) -> Palette
+    ensures { λ r. ⌜ r ≡ painted (completedBy d v) p ⌝ }
 {
-    let mut next = s;
-    let d = aimed_at(v);
-    next.dac = d;
-    next
-}
-
-// The state after byte v, as it is stored, was written to a component: only the third, after the two before it, stores an entry.
-pub fn painted(s: State, v: u8) -> State
-    ensures { λ r. ⌜ r ≡ stateWith (wroteComponent v) s ⌝ }
-{
-    let mut next = s;
-    let d = s.dac;
-    let n = after_paint(d, v);
-    next.dac = n;
     if completes(d) {
-        let p = s.palette;
         let c = Colour {
             red: d.red,
             green: d.green,
             blue: v,
         };
-        let q = store_entry(p, d.address, c);
-        next.palette = q;
+        return store_entry(p, d.address, c);
     }
-    next
+    p
+}
+
+// Nothing stored.
+pub fn empty_palette() -> Palette
+    ensures { λ r. ⌜ r ≡ emptyPalette ⌝ }
+{
+    Palette {
+        red: [0u8; 256],
+        green: [0u8; 256],
+        blue: [0u8; 256],
+        stored: [0u8; 256],
+    }
 }

@@ -7,26 +7,30 @@ ghost use Rattle.bits.specs.Word.{inside};
 ghost use Rattle.chip.specs.Palette.{entryOf};
 ghost use Rattle.chip.specs.Picture.{baseOf, strideOf, maskOf, notIndexed, unplaced, colourWord};
 ghost use Rattle.picture.specs.Draw.{fixedOf, paletteOf, TableFrom};
+use chip::COLOR_MODE;
+use chip::PIXEL_MASK;
+use chip::SCREEN_BASE;
+use chip::SCREEN_STRIDE;
 use chip::State;
 use chip::Units;
 
 fn not_indexed(s: State) -> bool
     ensures { λ r. ⌜ r ≡ notIndexed s ⌝ }
 {
-    let mode = s.indirect[0x18];
+    let mode = s.values[COLOR_MODE];
     mode % 32 != 0x10
 }
 
 fn is_unplaced(s: State) -> bool
     ensures { λ r. ⌜ r ≡ unplaced s ⌝ }
 {
-    if s.knowns[16] % 0x100000 != 0xFFFFF {
+    if s.knowns[SCREEN_BASE] % 0x100000 != 0xFFFFF {
         return true;
     }
-    if s.knowns[17] % 0x100000 != 0xFFFFF {
+    if s.knowns[SCREEN_STRIDE] % 0x100000 != 0xFFFFF {
         return true;
     }
-    s.knowns[33] % 256 != 0xFF
+    s.knowns[PIXEL_MASK] % 256 != 0xFF
 }
 
 // Rules 1 and 2: the word of every dot, or 0.
@@ -45,19 +49,19 @@ pub(crate) fn fixed_of(s: State) -> u32
 pub(crate) fn base_of(s: State) -> Units
     ensures { λ r. ⌜ r ≡ baseOf s ⌝ }
 {
-    Units(s.values[16] % 0x100000)
+    Units(s.values[SCREEN_BASE] % 0x100000)
 }
 
 pub(crate) fn stride_of(s: State) -> Units
     ensures { λ r. ⌜ r ≡ strideOf s ⌝ }
 {
-    Units(s.values[17] % 0x100000)
+    Units(s.values[SCREEN_STRIDE] % 0x100000)
 }
 
 pub(crate) fn mask_of(s: State) -> u8
     ensures { λ r. ⌜ r ≡ maskOf s ⌝ }
 {
-    (s.values[33] % 256) as u8
+    (s.values[PIXEL_MASK] % 256) as u8
 }
 
 fn wide(x: u8) -> u32

@@ -1,46 +1,78 @@
 -- The palette's address after an opening and any list of accesses: unknown until it is set, and then the value set plus one for each third component.
 -- The address and the component together are a position from 0 to 767, which a data access moves by one. Assumes nothing.
 use Prim.Native.Nat.{ℕ, _+_, _*_, _%_, _<_, _≤_}
+use mathlib.Core.Bool.{Bool, true, false}
 use mathlib.Core.List.{List, [], _∷_, _++_}
 use mathlib.Core.Logic.{_⊎_, inl, inr}
 use mathlib.Core.Option.{Option, none, some, Option·getD}
 use mathlib.Core.Path.{_≡_, refl, sym, ap, _∙_, subst}
 use native.Mathlib.Omega.{arith}
-use borrow.Author.Tests.{ltb-true, ltb-false, leb-true}
-use lib.Dec.{ltb}
-use Rattle.bits.proofs.Cases.{byTest}
+use borrow.Author.Tests.{eqb-true, eq-eqb, ltb-true, ltb-false, leb-true}
+use lib.Dec.{eqb, ltb}
+use Rattle.bits.specs.Choose.{pick}
+use Rattle.bits.specs.Bit.{bit}
+use Rattle.bits.specs.Word.{laneByte}
+use Rattle.bits.proofs.Cases.{byTest, pick-by}
+use Rattle.bits.proofs.Bools.{and-first, and-second}
 use Rattle.chip.specs.declared.State.{State}
 use Rattle.chip.specs.declared.Access.{Access}
 use Rattle.chip.specs.declared.Dac.{Dac}
 use Rattle.chip.specs.Dac.{resetDac, aimedAt, advanced, afterPeek}
-use Rattle.chip.specs.State.{resetState, withRegister, withHeader, withIndirect, withDac}
+use Rattle.chip.specs.Patch.{applied}
+use Rattle.chip.specs.Place.{placeOf}
+use Rattle.chip.specs.Port.{keptFrom}
+use Rattle.chip.specs.Refusal.{isWrite}
+use Rattle.chip.specs.State.{resetState}
 use Rattle.chip.specs.Sound.{componentOk}
-use Rattle.chip.specs.Effect.{Effect, idle, wroteRegister, wroteHeader, wroteIndirect, setAddress, wroteComponent, readComponent, wroteMemory, stateWith}
 use Rattle.chip.specs.Trace.{World, opened, after, run}
-use Rattle.promises.specs.Good.{Good, Openable}
+use Rattle.promises.specs.Good.{Good, Openable, statusAt}
 use Rattle.promises.specs.Along.{runs, lastPut}
-use Rattle.promises.specs.History.{effectAt, putsDac, putsAim, dataStep, dataSteps}
-use Rattle.promises.specs.Origin.{aimPut, AddressSet, AddressAt}
+use Rattle.promises.specs.Reach.{reachAt}
+use Rattle.promises.specs.History.{accepted, isData, isAim, aimPut, dataSteps}
+use Rattle.promises.specs.Origin.{dacPut, SetsAddress, AddressSet, AddressAt, WritesComponent}
 use Rattle.promises.proofs.Sane.{sane}
 use Rattle.promises.proofs.Dacs.{paint-advances}
+use Rattle.promises.proofs.Does.{stepped, does}
+use Rattle.promises.proofs.Sites.{names}
 use Rattle.promises.proofs.Worlds.{after-state, good-kept, good-along, opens, opened-good}
 use Rattle.promises.proofs.Along.{Found, find, later-none}
 
 -- ---- what an access leaves of the address, the component and the stage
 
-dac-with : (e : Effect) (s : State) → stateWith e s .dac ≡ Option·getD (putsDac s e) (s .dac)
-unfolding stateWith putsDac withRegister withHeader withIndirect withDac
-dac-with idle s = refl
-dac-with (wroteRegister i b w) s = refl
-dac-with (wroteHeader i b w o) s = refl
-dac-with (wroteIndirect i b w) s = refl
-dac-with (setAddress v) s = refl
-dac-with (wroteComponent v) s = refl
-dac-with readComponent s = refl
-dac-with (wroteMemory l) s = refl
+pub dac-step : (x : World) (a : Access) → after x a .state .dac ≡ Option·getD (dacPut x a) (x .state .dac)
+unfolding applied
+dac-step x a = ap (λ (s : State). s .dac) (after-state x a)
 
-pub dac-step : (x : World) (a : Access) → after x a .state .dac ≡ Option·getD (putsDac (x .state) (effectAt x a)) (x .state .dac)
-dac-step x a = ap (λ (s : State). s .dac) (after-state x a) ∙ dac-with (effectAt x a) (x .state)
+-- an access that sets the address, and one to palette data, in 01's words
+pub sets-address : (x : World) (a : Access) → isAim x a ≡ true → SetsAddress x a (laneByte 0 (a .word))
+unfolding isAim accepted
+sets-address x a e =
+    let w = and-second (eqb (statusAt x a) 0) _ e in
+    let r = and-second (isWrite a) _ w in
+    record {
+      accepted = eqb-true (statusAt x a) 0 (and-first (eqb (statusAt x a) 0) _ e);
+      write = and-first (isWrite a) _ w;
+      place = names (placeOf (x .state) a) .aims (and-first (reachAt (placeOf (x .state) a) .aims) (bit 0 (a .enables)) r);
+      lane = and-second (reachAt (placeOf (x .state) a) .aims) (bit 0 (a .enables)) r;
+      value = refl;
+    }
+
+pub writes-component : (x : World) (a : Access) → isWrite a ≡ true → isData x a ≡ true → WritesComponent x a (keptFrom (x .state) a)
+unfolding isData accepted keptFrom
+writes-component x a w e =
+    let r = and-second (eqb (statusAt x a) 0) _ e in
+    record {
+      accepted = eqb-true (statusAt x a) 0 (and-first (eqb (statusAt x a) 0) _ e);
+      write = w;
+      place = names (placeOf (x .state) a) .paints (and-first (reachAt (placeOf (x .state) a) .paints) (bit 0 (a .enables)) r);
+      lane = and-second (reachAt (placeOf (x .state) a) .paints) (bit 0 (a .enables)) r;
+      value = refl;
+    }
+
+-- and back
+is-aim : (x : World) (a : Access) (v : ℕ) → SetsAddress x a v → isAim x a ≡ true
+unfolding isAim accepted reachAt
+is-aim x a v q = simp (eq-eqb (statusAt x a) 0 (q .accepted), q .write, q .place, q .lane)
 
 -- ---- one access moves the position by one, or not at all
 
@@ -61,32 +93,37 @@ advanced-moved d n r g ha hc =
 still-moved : (d : Dac) → d .address < 256 → d .component ≤ 2 → Moved d d 0
 still-moved d ha hc = record { place = omega arith; known = refl }
 
-moved-with : (e : Effect) (s : State) → putsAim e ≡ none → s .dac .address < 256 → s .dac .component ≤ 2
-    → Moved (s .dac) (Option·getD (putsDac s e) (s .dac)) (dataStep e)
-unfolding putsAim putsDac dataStep afterPeek
-moved-with idle s e ha hc = still-moved (s .dac) ha hc
-moved-with (wroteRegister i b w) s e ha hc = still-moved (s .dac) ha hc
-moved-with (wroteHeader i b w o) s e ha hc = still-moved (s .dac) ha hc
-moved-with (wroteIndirect i b w) s e ha hc = still-moved (s .dac) ha hc
-moved-with (setAddress v) s e ha hc = absurd (let z : _≡_ {A = ℕ} 0 1 = cc in omega arith)
-moved-with (wroteComponent v) s e ha hc =
-    paint-advances (λ (n : Dac). Moved (s .dac) n 1) (s .dac) v (λ n r g. advanced-moved (s .dac) n r g ha hc)
-moved-with readComponent s e ha hc = advanced-moved (s .dac) 0 0 0 ha hc
-moved-with (wroteMemory l) s e ha hc = still-moved (s .dac) ha hc
-
 component-le : (x : World) → Good x → x .state .dac .component ≤ 2
 unfolding componentOk
 component-le x g = leb-true (x .state .dac .component) 2 (sane (x .state) (g .state) .component)
 
 -- ---- along a list that sets no address
 
+-- an access that sets none
+not-aim : (t : Bool) (v : ℕ) → _≡_ {A = Option ℕ} (pick t (some v) none) none → t ≡ false
+not-aim true v e = cc
+not-aim false v e = refl
+
+moved-by : (x : World) (a : Access) → Good x → aimPut x a ≡ none → Moved (x .state .dac) (after x a .state .dac) (pick (isData x a) 1 0)
+unfolding aimPut afterPeek
+moved-by x a g e =
+    let ha = g .formed .address in
+    let hc = component-le x g in
+    let d : after x a .state .dac ≡ Option·getD (pick (isData x a) (some (stepped (x .state) a)) none) (x .state .dac) =
+    dac-step x a ∙ ap (λ (o : Option Dac). Option·getD o (x .state .dac)) (simp (not-aim (isAim x a) _ e) at (does x a .dac)) in
+    subst (λ (n : Dac). Moved (x .state .dac) n (pick (isData x a) 1 0)) (sym d)
+    (byTest (isData x a)
+    (λ q. simp q
+    (pick-by (λ (n : Dac). Moved (x .state .dac) n 1) (isWrite a) _ _
+    (paint-advances (λ (n : Dac). Moved (x .state .dac) n 1) (x .state .dac) _ (λ n r g. advanced-moved (x .state .dac) n r g ha hc))
+    (advanced-moved (x .state .dac) 0 0 0 ha hc)))
+    (λ q. simp q (still-moved (x .state .dac) ha hc)))
+
 along : (x : World) (l : List Access) → Good x → lastPut after aimPut x l ≡ none → Moved (x .state .dac) (run x l .state .dac) (dataSteps x l)
 along x [] g e = still-moved (x .state .dac) (g .formed .address) (component-le x g)
 along x (a ∷ l) g e =
     let n = later-none (lastPut after aimPut (after x a) l) (aimPut x a) e in
-    let u : Moved (x .state .dac) (after x a .state .dac) (dataStep (effectAt x a)) =
-    subst (λ (d : Dac). Moved (x .state .dac) d (dataStep (effectAt x a))) (sym (dac-step x a))
-    (moved-with (effectAt x a) (x .state) (n .1) (g .formed .address) (component-le x g)) in
+    let u = moved-by x a g (n .1) in
     let v = along (after x a) l (good-kept x a g) (n .0) in
     record { place = omega (arith, u .place, v .place); known = v .known ∙ u .known }
 
@@ -100,20 +137,11 @@ pub run-append : (x : World) (l k : List Access) → run x (l ++ k) ≡ run (run
 run-append x [] k = refl
 run-append x (a ∷ l) k = run-append (after x a) l k
 
-aims-is : (e : Effect) (v : ℕ) → putsAim e ≡ some v → e ≡ setAddress v
-unfolding putsAim
-aims-is idle v q = cc
-aims-is (wroteRegister i b w) v q = cc
-aims-is (wroteHeader i b w o) v q = cc
-aims-is (wroteIndirect i b w) v q = cc
-aims-is (setAddress u) v q = ap setAddress (ap (λ (o : Option ℕ). Option·getD o u) q)
-aims-is (wroteComponent u) v q = cc
-aims-is readComponent v q = cc
-aims-is (wroteMemory l) v q = cc
-
-aimed-dac : (y : World) (a : Access) (v : ℕ) → effectAt y a ≡ setAddress v → after y a .state .dac ≡ aimedAt v
-unfolding putsDac
-aimed-dac y a v q = dac-step y a ∙ ap (λ (e : Effect). Option·getD (putsDac (y .state) e) (y .state .dac)) q
+aimed-dac : (y : World) (a : Access) (v : ℕ) → SetsAddress y a v → after y a .state .dac ≡ aimedAt v
+aimed-dac y a v q =
+    dac-step y a
+    ∙ ap (λ (o : Option Dac). Option·getD o (y .state .dac)) (simp (is-aim y a v q) at (does y a .dac))
+    ∙ ap aimedAt (sym (q .value))
 
 at-set : (d : Dac) (v n : ℕ) → d .component ≤ 2 → Moved (aimedAt v) d n → AddressAt d v n
 unfolding aimedAt
@@ -141,6 +169,16 @@ pub record SetBy (x : World) (l : List Access) : Type 0 where
   pub steps : ℕ
   pub set : AddressSet x l value steps
 
+aims-is : (y : World) (a : Access) (v : ℕ) → aimPut y a ≡ some v → SetsAddress y a v
+unfolding aimPut
+aims-is y a v e =
+    byTest (isAim y a)
+    (λ q. subst (SetsAddress y a) (ap (λ (o : Option ℕ). Option·getD o (laneByte 0 (a .word))) (simp q at e)) (sets-address y a q))
+    (λ q. never (simp q at e))
+  where
+    never : _≡_ {A = Option ℕ} none (some v) → SetsAddress y a v
+    never e = absurd (let z : _≡_ {A = ℕ} 0 1 = cc in omega arith)
+
 -- an access of the list set the address, or none did
 pub set-or-not : (x : World) (l : List Access) → SetBy x l ⊎ (lastPut after aimPut x l ≡ none)
 set-or-not x l = go (find after aimPut x l)
@@ -156,7 +194,7 @@ set-or-not x l = go (find after aimPut x l)
                 by = f .put .by;
                 rest = f .put .rest;
                 split = f .put .split;
-                sets = aims-is (effectAt (run x (f .put .before)) (f .put .by)) (f .value) (subst (λ (y : World). aimPut y (f .put .by) ≡ some (f .value)) (run-runs x (f .put .before)) (f .put .put));
+                sets = aims-is (run x (f .put .before)) (f .put .by) (f .value) (subst (λ (y : World). aimPut y (f .put .by) ≡ some (f .value)) (run-runs x (f .put .before)) (f .put .put));
                 silent = subst (λ (y : World). lastPut after aimPut (after y (f .put .by)) (f .put .rest) ≡ none) (run-runs x (f .put .before)) (f .put .silent);
                 count = refl;
               };

@@ -3,31 +3,32 @@
 use Prim.Native.Nat.{ℕ, _/_, _<_}
 use mathlib.Core.Bool.{Bool, true, false, _&&_}
 use mathlib.Core.List.{List}
-use mathlib.Core.Path.{_≡_, refl, ap, ap₂, _∙_}
+use mathlib.Core.Option.{Option, none, Option·getD}
+use mathlib.Core.Path.{_≡_, refl, sym, ap, _∙_, subst}
 use borrow.Author.Tests.{eqb-true}
 use lib.Dec.{eqb}
 use Rattle.bits.specs.Bit.{bit}
 use Rattle.bits.specs.Word.{lanesOf}
-use Rattle.bits.proofs.Cases.{pick-by}
+use Rattle.bits.proofs.Cases.{pick-when}
 use Rattle.bits.proofs.Bools.{and-false}
 use Rattle.bits.proofs.Single.{bit-of-zero}
 use Rattle.bits.proofs.Words.{bit-inside, lane-bit, inside-zero}
 use Rattle.chip.specs.declared.State.{State}
 use Rattle.chip.specs.declared.Access.{Access}
-use Rattle.chip.specs.declared.Dac.{Dac}
-use Rattle.chip.specs.declared.Place.{Place}
-use Rattle.chip.specs.declared.Place.the-variants.{Register, Address, PaletteData, IndexedData, Window, Config, Blank, Nowhere}
-use Rattle.chip.specs.State.{withDac}
-use Rattle.chip.specs.Place.{placeOf}
+use Rattle.chip.specs.Dac.{Paint}
+use Rattle.chip.specs.Aperture.{putAll}
+use Rattle.chip.specs.Patch.{Store, Patch, valued, learned, painted, applied, memoryWith}
+use Rattle.chip.specs.Port.{knownIn, wordIn}
 use Rattle.chip.specs.Refusal.{isWrite}
-use Rattle.chip.specs.Effect.{Effect, idle, readComponent, knownIn, wordIn, readEffect, stateWith}
-use Rattle.chip.specs.Picture.{baseOf, strideOf, rowStart, dotByte, maskOf, notIndexed, unplaced, beyond, dotEntry, underByte, underAt, laidAt, wordAt, wordOf, redrawn}
-use Rattle.chip.specs.Step.{Outcome, refused, settled, seenBy, effectOf, stateAfter, memoryAfter, doneBy, givenBy, stepOf}
+use Rattle.chip.specs.Picture.{baseOf, strideOf, rowStart, dotByte, maskOf, notIndexed, unplaced, beyond, dotEntry, underByte, underAt, laidAt, wordAt, wordOf}
+use Rattle.chip.specs.Step.{Outcome, refused, settled, seenBy, doneBy, givenBy, stepOf}
 use Rattle.chip.specs.Trace.{World, step, after}
-use Rattle.chip.proofs.Redraw.{redrawn-still}
-use Rattle.chip.proofs.Lent.{read-memory}
+use Rattle.chip.proofs.Redraw.{redrawn-alike}
 use Rattle.promises.specs.Good.{statusAt}
-use Rattle.promises.specs.View.{LeavesRest}
+use Rattle.promises.specs.History.{accepted, patchAt}
+use Rattle.promises.specs.View.{StepsOnly, LeavesRest}
+use Rattle.promises.proofs.Does.{writes, does}
+use Rattle.promises.proofs.Worlds.{after-state, after-memory}
 use Rattle.promises.proofs.Shown.{enables-lt}
 
 -- ---- by the two ways that an access can go
@@ -36,7 +37,7 @@ by-way : (P : Outcome → Type 0) (x : World) (a : Access)
     → (statusAt x a ≡ 0 → P (doneBy (x .state) (x .memory) (x .picture) a))
     → P (refused (statusAt x a) (x .state) (x .memory) (x .picture)) → P (step x a)
 unfolding stepOf givenBy
-by-way P x a d r = Rattle.bits.proofs.Cases.pick-when P (eqb (statusAt x a) 0) _ _ (λ q. d (eqb-true (statusAt x a) 0 q)) (λ q. r)
+by-way P x a d r = pick-when P (eqb (statusAt x a) 0) _ _ (λ q. d (eqb-true (statusAt x a) 0 q)) (λ q. r)
 
 zero-known : (k v : Bool) → k ≡ false → (v && k) ≡ false
 zero-known k v e = ap (λ (t : Bool). v && t) e ∙ and-false v
@@ -66,63 +67,48 @@ write-answers x a w =
 
 -- ---- a read
 
-read-state : (a : Access) (p : Place) (s : State) → stateWith (readEffect a p) s ≡ withDac s (stateWith (readEffect a p) s .dac) (s .palette)
-unfolding readEffect stateWith withDac
-read-state a (Register i) s = refl
-read-state a Address s = refl
-read-state a PaletteData s =
-    pick-by (λ (e : Effect). stateWith e s ≡ withDac s (stateWith e s .dac) (s .palette)) (bit 0 (a .enables)) readComponent idle refl refl
-read-state a IndexedData s = refl
-read-state a (Window i) s = refl
-read-state a (Config i) s = refl
-read-state a Blank s = refl
-read-state a Nowhere s = refl
-
--- a dot's word does not ask for the palette's pointer
-still-picture : (s n : State) (m k p : List ℕ) (d : Dac) → n ≡ withDac s d (s .palette) → k ≡ m → redrawn (wordOf s m) (wordOf n k) p ≡ p
-unfolding wordOf wordAt laidAt underAt underByte dotEntry beyond unplaced notIndexed maskOf dotByte rowStart strideOf baseOf withDac
-still-picture s n m k p d e f =
-    ap₂ (λ (y : State) (l : List ℕ). redrawn (wordOf s m) (wordOf y l) p) e f ∙ redrawn-still (wordOf s m) p
-
-read-after : (s : State) (a : Access) → isWrite a ≡ false → stateAfter s a ≡ withDac s (stateAfter s a .dac) (s .palette)
-unfolding stateAfter effectOf
-read-after s a w = simp w (read-state a (placeOf a) s)
-
-read-memory-after : (s : State) (m : List ℕ) (a : Access) → isWrite a ≡ false → memoryAfter s m a ≡ m
-unfolding memoryAfter effectOf
-read-memory-after s m a w = simp w (read-memory a (placeOf a) m)
-
--- a read, accepted or refused, alters nothing but the palette's address, component and stage
-pub read-leaves : (x : World) (a : Access) → isWrite a ≡ false → LeavesRest x (after x a)
-unfolding doneBy settled refused withDac
-read-leaves x a w =
-    let e = read-after (x .state) a w in
-    let f = read-memory-after (x .state) (x .memory) a w in
-    by-way (λ (o : Outcome). LeavesRest x (record { state = o .answer .state; memory = o .memory; picture = o .picture })) x a
-    (λ d.
+-- a state after nothing but the palette's pointer was stored
+stepped-state : (p : Patch) (s : State) → p .store ≡ none → p .once ≡ none → p .paint ≡ none → StepsOnly s (applied p s)
+unfolding applied
+stepped-state p s e o q =
     record {
-      width = ap (λ (s : State). s .width) e;
-      height = ap (λ (s : State). s .height) e;
-      fitted = ap (λ (s : State). s .fitted) e;
-      once = ap (λ (s : State). s .once) e;
-      values = ap (λ (s : State). s .values) e;
-      knowns = ap (λ (s : State). s .knowns) e;
-      header = ap (λ (s : State). s .header) e;
-      indirect = ap (λ (s : State). s .indirect) e;
-      palette = ap (λ (s : State). s .palette) e;
-      memory = f;
-      picture = still-picture (x .state) (stateAfter (x .state) a) (x .memory) (memoryAfter (x .state) (x .memory) a) (x .picture) _ e f;
-    })
-    (record {
       width = refl;
       height = refl;
       fitted = refl;
-      once = refl;
-      values = refl;
-      knowns = refl;
-      header = refl;
-      indirect = refl;
-      palette = refl;
-      memory = refl;
-      picture = refl;
-    })
+      once = ap (λ (h : Option ℕ). Option·getD h (s .once)) o;
+      values = ap (λ (h : Option Store). valued h (s .values)) e;
+      knowns = ap (λ (h : Option Store). learned h (s .knowns)) e;
+      palette = ap (λ (h : Option Paint). painted h (s .palette)) q;
+    }
+
+-- a dot's word does not ask for it
+still-word : (s n : State) (m k : List ℕ) → StepsOnly s n → k ≡ m → (j : ℕ) → wordOf s m j ≡ wordOf n k j
+unfolding wordOf wordAt laidAt underAt underByte dotEntry beyond unplaced notIndexed maskOf dotByte rowStart strideOf baseOf
+still-word s n m k e f j = simp (e .width, e .values, e .knowns, e .palette, f)
+
+not-written : (x : World) (a : Access) → isWrite a ≡ false → writes x a ≡ false
+not-written x a w = simp w (and-false (accepted x a))
+
+read-state : (x : World) (a : Access) → isWrite a ≡ false → StepsOnly (x .state) (after x a .state)
+read-state x a w =
+    let d = does x a in
+    let n = not-written x a w in
+    subst (StepsOnly (x .state)) (sym (after-state x a))
+    (stepped-state (patchAt x a) (x .state) (simp n at (d .store)) (simp n at (d .once)) (simp w at (d .paint)))
+
+read-memory : (x : World) (a : Access) → isWrite a ≡ false → after x a .memory ≡ x .memory
+unfolding memoryWith
+read-memory x a w = after-memory x a ∙ ap (putAll (x .memory)) (simp (not-written x a w) at (does x a .puts))
+
+read-picture : (x : World) (a : Access) → StepsOnly (x .state) (after x a .state) → after x a .memory ≡ x .memory → after x a .picture ≡ x .picture
+unfolding doneBy settled refused
+read-picture x a =
+    by-way (λ (o : Outcome). StepsOnly (x .state) (o .answer .state) → o .memory ≡ x .memory → o .picture ≡ x .picture) x a
+    (λ d e f. redrawn-alike _ _ (x .picture) (still-word (x .state) _ (x .memory) _ e f)) (λ e f. refl)
+
+-- a read, accepted or refused, alters nothing but the palette's address, component and stage
+pub read-leaves : (x : World) (a : Access) → isWrite a ≡ false → LeavesRest x (after x a)
+read-leaves x a w =
+    let e = read-state x a w in
+    let f = read-memory x a w in
+    record { state = e; memory = f; picture = read-picture x a e f }

@@ -1,7 +1,7 @@
--- What one effect does to a register's bit, to a memory byte and to a palette entry: what it puts there, and else what was there.
--- By cases on the place and the effect, from the laws of set, of a merged word, of stores and of entries. Assumes nothing.
+-- What an access makes of a register's bit, of a memory byte and of a palette entry: what it puts there, and else what was there.
+-- Each from one part of what it stores, by the laws of set, of a merged word, of stores and of entries. Assumes nothing.
 use Prim.Native.Nat.{ℕ, _^_, _<_}
-use mathlib.Core.Bool.{Bool, true, false, not, _&&_}
+use mathlib.Core.Bool.{Bool, true, false, _&&_}
 use mathlib.Core.List.{List, [], _∷_}
 use mathlib.Core.Option.{Option, none, some, Option·getD}
 use mathlib.Core.Path.{_≡_, refl, sym, ap, ap₂, _∙_, subst}
@@ -12,44 +12,42 @@ use lib.ListN.{getD, set, length, length-set}
 use lib.Seq.{getD-set-same, getD-set-other}
 use Rattle.bits.specs.Choose.{pick}
 use Rattle.bits.specs.Bit.{bit}
-use Rattle.bits.specs.Word.{outside, joined, merged}
-use Rattle.bits.proofs.Cases.{byTest, pick-same}
-use Rattle.bits.proofs.Bools.{and-first, and-second}
-use Rattle.bits.proofs.Single.{bit-of-zero}
-use Rattle.bits.proofs.Words.{clear-not, bit-outside, bit-merged, bit-learned}
+use Rattle.bits.specs.Word.{joined, merged}
+use Rattle.bits.proofs.Cases.{byTest, pick-by}
+use Rattle.bits.proofs.Words.{bit-merged, bit-learned}
 use Rattle.bits.proofs.Lists.{getD-set}
 use Rattle.chip.specs.declared.State.{State}
 use Rattle.chip.specs.declared.Access.{Access}
 use Rattle.chip.specs.declared.Colour.{Colour}
 use Rattle.chip.specs.declared.Palette.{Palette}
-use Rattle.chip.specs.Region.{regionCount}
-use Rattle.chip.specs.Header.{headerCount, headerRow}
-use Rattle.chip.specs.Indirect.{indexCount, indirectEntry}
 use Rattle.chip.specs.Palette.{entryCount, entryOf}
-use Rattle.chip.specs.Dac.{completedBy}
+use Rattle.chip.specs.Dac.{Paint}
 use Rattle.chip.specs.Aperture.{Put, putAll}
-use Rattle.chip.specs.State.{withRegister, withHeader, withIndirect, withDac}
-use Rattle.chip.specs.Effect.{Effect, idle, wroteRegister, wroteHeader, wroteIndirect, setAddress, wroteComponent, readComponent, wroteMemory, storedWhen, stateWith, memoryWith}
+use Rattle.chip.specs.Patch.{Store, valued, learned, painted, applied, memoryWith}
+use Rattle.chip.specs.Place.{placeOf}
+use Rattle.chip.specs.Port.{rowPatch}
 use Rattle.chip.specs.Trace.{World, after}
-use Rattle.chip.proofs.Tables.{header-rule, indirect-rule}
 use Rattle.chip.proofs.Entries.{Entries, entry-stored}
 use Rattle.promises.specs.Good.{Formed, Good}
 use Rattle.promises.specs.Along.{laterOf}
-use Rattle.promises.specs.History.{effectAt, seenBit, Spot, region, header, indirect, holds, putIf, putsBit, lastPoke, putsByte, wrapped, putsEntry}
-use Rattle.promises.proofs.Proper.{Proper, effect-proper}
+use Rattle.promises.specs.Reach.{reachAt}
+use Rattle.promises.specs.History.{patchAt, seenBit, Spot, Real, holds, putsBit, lastPoke, putsEntry}
+use Rattle.promises.specs.Frame.{SameBit}
+use Rattle.promises.proofs.Bank.{stored-lt}
+use Rattle.promises.proofs.Does.{storeFrom, writes, does}
 use Rattle.promises.proofs.Worlds.{after-state, after-memory}
 
 -- ---- a register's bit, over plain values
 
 module _ (l : List ℕ) (i r b bits word : ℕ) (hr : r < length l) (hb : b < 32) (hm : bits < 2 ^ 32) where
-  pub value-set : bit b (getD (set l i (merged (getD l i 0) word bits)) r 0) ≡ pick (eqb i r && bit b bits) (bit b word) (bit b (getD l r 0))
+  value-set : bit b (getD (set l i (merged (getD l i 0) word bits)) r 0) ≡ pick (eqb i r && bit b bits) (bit b word) (bit b (getD l r 0))
   value-set =
       byTest (eqb i r)
       (λ q. let d : i ≡ r = eqb-true i r q in
       rw (d, eq-eqb r r refl, getD-set-same l r _ 0 hr, bit-merged b (getD l r 0) word bits hb hm))
       (λ q. let d : r ≡ i → ⊥ = λ z. eqb-false i r q (sym z) in rw (q, getD-set-other l i r _ 0 d))
 
-  pub known-set : bit b (getD (set l i (joined (getD l i 0) bits)) r 0) ≡ pick (eqb i r && bit b bits) true (bit b (getD l r 0))
+  known-set : bit b (getD (set l i (joined (getD l i 0) bits)) r 0) ≡ pick (eqb i r && bit b bits) true (bit b (getD l r 0))
   known-set =
       byTest (eqb i r)
       (λ q. let d : i ≡ r = eqb-true i r q in
@@ -62,77 +60,70 @@ unfolding seenBit
 seen-stored true k v y = refl
 seen-stored false k v y = refl
 
--- the same where what is known stays, and what is stored is known
-seen-kept : (t k v y : Bool) → (t ≡ true → k ≡ true) → seenBit k (pick t y v) ≡ Option·getD (pick t (some (some y)) none) (seenBit k v)
-unfolding seenBit
-seen-kept true k v y f = rw (f refl)
-seen-kept false k v y f = refl
+-- ---- a register's bit after a store
 
-implied : (m k : Bool) → (m && not k) ≡ false → m ≡ true → k ≡ true
-implied true true e h = refl
-implied true false e h = cc
-implied false true e h = refl
-implied false false e h = h
+-- the bits of a store are bits of a word
+Narrow : Option Store → Type 0
+Narrow none = Unit {0}
+Narrow (some x) = x .bits < 2 ^ 32
 
--- a bit that is stored is one of those that are known
-known-of : (i r b bits k : ℕ) (f : ℕ → ℕ) → b < 32 → f r < 2 ^ 32 → r < k → (i < k → outside bits (f i) ≡ 0) → (eqb i r && bit b bits) ≡ true → bit b (f r) ≡ true
-known-of i r b bits k f hb hk hr o t =
-    let d : i ≡ r = eqb-true i r (and-first (eqb i r) (bit b bits) t) in
-    let z : outside bits (f r) ≡ 0 = subst (λ (j : ℕ). j < k → outside bits (f j) ≡ 0) d o hr in
-    implied (bit b bits) (bit b (f r))
-    (ap (λ (t : Bool). bit b bits && t) (sym (clear-not b (f r) hb hk)) ∙ sym (bit-outside b bits (f r)) ∙ ap (bit b) z ∙ bit-of-zero b)
-    (and-second (eqb i r) (bit b bits) t)
+narrow : (x : World) (a : Access) → Narrow (patchAt x a .store)
+unfolding Narrow rowPatch
+narrow x a =
+    subst Narrow (sym (does x a .store))
+    (pick-by Narrow (writes x a) _ none (from (reachAt (placeOf (x .state) a) .row)) tt)
+  where
+    from : (i : Option ℕ) → Narrow (storeFrom (x .state) a i)
+    from none = tt
+    from (some i) = stored-lt (x .state .once) i (a .enables) (a .word)
 
--- ---- a spot after an effect
+module _ (s : State) (f : Formed s) (q : Spot) (h : Real q) where
+  spot-with : (o : Option Store) → Narrow o
+      → seenBit (bit (q .b) (getD (learned o (s .knowns)) (q .row) 0)) (bit (q .b) (getD (valued o (s .values)) (q .row) 0))
+      ≡ Option·getD (putsBit q o) (holds s q)
+  unfolding holds putsBit Narrow
+  spot-with none n = refl
+  spot-with (some x) n =
+      ap₂ seenBit
+      (known-set (s .knowns) (x .row) (q .row) (q .b) (x .bits) (x .word) (omega (arith, f .knowns, h .row)) (h .bit) n)
+      (value-set (s .values) (x .row) (q .row) (q .b) (x .bits) (x .word) (omega (arith, f .values, h .row)) (h .bit) n)
+      ∙ seen-stored (eqb (x .row) (q .row) && bit (q .b) (x .bits)) _ _ (bit (q .b) (x .word))
 
--- the rows and bits that there are
-unfoldable pub Real : Spot → Type 0
-Real (region r b) = (r < regionCount) × (b < 32)
-Real (header r b) = (r < headerCount) × (b < 32)
-Real (indirect i b) = (i < indexCount) × (b < 32)
+  -- a bit into which nothing is put
+  record Same (o : Option Store) : Type 0 where
+    value : bit (q .b) (getD (valued o (s .values)) (q .row) 0) ≡ bit (q .b) (getD (s .values) (q .row) 0)
+    known : bit (q .b) (getD (learned o (s .knowns)) (q .row) 0) ≡ bit (q .b) (getD (s .knowns) (q .row) 0)
 
-pub spot-with : (p : Spot) (e : Effect) (s : State) → Real p → Proper e → Formed s
-    → holds (stateWith e s) p ≡ Option·getD (putsBit p e) (holds s p)
-unfolding holds putsBit putIf stateWith withRegister withHeader withIndirect withDac Real Proper
-spot-with (region r b) idle s h q f = refl
-spot-with (region r b) (wroteRegister i bits w) s h q f =
-    ap₂ seenBit (known-set (s .knowns) i r b bits w (omega (arith, f .knowns, h .0)) (h .1) q) (value-set (s .values) i r b bits w (omega (arith, f .values, h .0)) (h .1) q)
-    ∙ seen-stored (eqb i r && bit b bits) _ _ (bit b w)
-spot-with (region r b) (wroteHeader i bits w o) s h q f = refl
-spot-with (region r b) (wroteIndirect i bits w) s h q f = refl
-spot-with (region r b) (setAddress v) s h q f = refl
-spot-with (region r b) (wroteComponent v) s h q f = refl
-spot-with (region r b) readComponent s h q f = refl
-spot-with (region r b) (wroteMemory l) s h q f = refl
-spot-with (header r b) idle s h q f = refl
-spot-with (header r b) (wroteRegister i bits w) s h q f = refl
-spot-with (header r b) (wroteHeader i bits w o) s h q f =
-    ap (seenBit (bit b (headerRow r .known))) (value-set (s .header) i r b bits w (omega (arith, f .header, h .0)) (h .1) (q .0))
-    ∙ seen-kept (eqb i r && bit b bits) _ _ (bit b w)
-    (known-of i r b bits headerCount (λ (j : ℕ). headerRow j .known) (h .1) (header-rule r (h .0) .word) (h .0) (q .1))
-spot-with (header r b) (wroteIndirect i bits w) s h q f = refl
-spot-with (header r b) (setAddress v) s h q f = refl
-spot-with (header r b) (wroteComponent v) s h q f = refl
-spot-with (header r b) readComponent s h q f = refl
-spot-with (header r b) (wroteMemory l) s h q f = refl
-spot-with (indirect r b) idle s h q f = refl
-spot-with (indirect r b) (wroteRegister i bits w) s h q f = refl
-spot-with (indirect r b) (wroteHeader i bits w o) s h q f = refl
-spot-with (indirect r b) (wroteIndirect i bits w) s h q f =
-    ap (seenBit (bit b (indirectEntry r .known))) (value-set (s .indirect) i r b bits w (omega (arith, f .indirect, h .0)) (h .1) (q .0))
-    ∙ seen-kept (eqb i r && bit b bits) _ _ (bit b w)
-    (known-of i r b bits indexCount (λ (j : ℕ). indirectEntry j .known) (h .1) (omega (arith, indirect-rule r (h .0) .byte)) (h .0) (q .1))
-spot-with (indirect r b) (setAddress v) s h q f = refl
-spot-with (indirect r b) (wroteComponent v) s h q f = refl
-spot-with (indirect r b) readComponent s h q f = refl
-spot-with (indirect r b) (wroteMemory l) s h q f = refl
+  same-with : (o : Option Store) → Narrow o → putsBit q o ≡ none → Same o
+  unfolding putsBit Narrow
+  same-with none n e = record { value = refl; known = refl }
+  same-with (some x) n e =
+      let t : (eqb (x .row) (q .row) && bit (q .b) (x .bits)) ≡ false = not-put (eqb (x .row) (q .row) && bit (q .b) (x .bits)) (bit (q .b) (x .word)) e in
+      record {
+        value =
+            value-set (s .values) (x .row) (q .row) (q .b) (x .bits) (x .word) (omega (arith, f .values, h .row)) (h .bit) n
+            ∙ ap (λ (u : Bool). pick u (bit (q .b) (x .word)) (bit (q .b) (getD (s .values) (q .row) 0))) t;
+        known =
+            known-set (s .knowns) (x .row) (q .row) (q .b) (x .bits) (x .word) (omega (arith, f .knowns, h .row)) (h .bit) n
+            ∙ ap (λ (u : Bool). pick u true (bit (q .b) (getD (s .knowns) (q .row) 0))) t;
+      }
+    where
+      not-put : (t y : Bool) → _≡_ {A = Option (Option Bool)} (pick t (some (some y)) none) none → t ≡ false
+      not-put true y e = cc
+      not-put false y e = refl
 
-pub spot-step : (p : Spot) → Real p → (x : World) (a : Access) → Good x
-    → holds (after x a .state) p ≡ Option·getD (putsBit p (effectAt x a)) (holds (x .state) p)
-spot-step p h x a g =
-    ap (λ (s : State). holds s p) (after-state x a) ∙ spot-with p (effectAt x a) (x .state) h (effect-proper x a) (g .formed)
+pub spot-step : (q : Spot) → Real q → (x : World) (a : Access) → Good x
+    → holds (after x a .state) q ≡ Option·getD (putsBit q (patchAt x a .store)) (holds (x .state) q)
+unfolding applied holds
+spot-step q h x a g = ap (λ (s : State). holds s q) (after-state x a) ∙ spot-with (x .state) (g .formed) q h (patchAt x a .store) (narrow x a)
 
--- ---- a memory byte after an effect
+pub same-step : (q : Spot) → Real q → (x : World) (a : Access) → Good x → putsBit q (patchAt x a .store) ≡ none → SameBit (x .state) (after x a .state) q
+unfolding applied
+same-step q h x a g e =
+    let z = same-with (x .state) (g .formed) q h (patchAt x a .store) (narrow x a) e in
+    subst (λ (n : State). SameBit (x .state) n q) (sym (after-state x a)) (record { value = z .value; known = z .known })
+
+-- ---- a memory byte after stores
 
 later-byte : (p q : Option ℕ) (d : ℕ) → Option·getD p (Option·getD q d) ≡ Option·getD (laterOf p q) d
 later-byte none q d = refl
@@ -149,47 +140,26 @@ poked-at k m (x ∷ l) h =
     ∙ ap (Option·getD (lastPoke k l)) (getD-set m (x .at .0) k (x .byte) 0 h ∙ one-byte (eqb (x .at .0) k) (x .byte) (getD m k 0))
     ∙ later-byte (lastPoke k l) (pick (eqb (x .at .0) k) (some (x .byte)) none) (getD m k 0)
 
-byte-with : (k : ℕ) (e : Effect) (m : List ℕ) → k < length m → getD (memoryWith e m) k 0 ≡ Option·getD (putsByte k e) (getD m k 0)
-unfolding memoryWith putsByte
-byte-with k idle m h = refl
-byte-with k (wroteRegister i bits w) m h = refl
-byte-with k (wroteHeader i bits w o) m h = refl
-byte-with k (wroteIndirect i bits w) m h = refl
-byte-with k (setAddress v) m h = refl
-byte-with k (wroteComponent v) m h = refl
-byte-with k readComponent m h = refl
-byte-with k (wroteMemory l) m h = poked-at k m l h
-
 pub byte-step : (k : ℕ) (x : World) (a : Access) → k < length (x .memory)
-    → getD (after x a .memory) k 0 ≡ Option·getD (putsByte k (effectAt x a)) (getD (x .memory) k 0)
-byte-step k x a h = ap (λ (m : List ℕ). getD m k 0) (after-memory x a) ∙ byte-with k (effectAt x a) (x .memory) h
+    → getD (after x a .memory) k 0 ≡ Option·getD (lastPoke k (patchAt x a .puts)) (getD (x .memory) k 0)
+unfolding memoryWith
+byte-step k x a h = ap (λ (m : List ℕ). getD m k 0) (after-memory x a) ∙ poked-at k (x .memory) (patchAt x a .puts) h
 
--- ---- a palette entry after an effect
+-- ---- a palette entry after it was painted
 
 entry-over : (t : Bool) (c : Colour) (d : Option Colour) → pick t (some c) d ≡ Option·getD (pick t (some (some c)) none) d
 entry-over true c d = refl
 entry-over false c d = refl
 
-painted-entry : (o : Option Colour) (p : Palette) (a e : ℕ) → Entries p → e < entryCount
-    → entryOf (storedWhen o p a) e ≡ Option·getD (pick (eqb a e) (wrapped o) none) (entryOf p e)
-painted-entry none p a e l h = sym (ap (λ (q : Option (Option Colour)). Option·getD q (entryOf p e)) (pick-same (eqb a e) none))
-painted-entry (some c) p a e l h = entry-stored p a e c l h ∙ entry-over (eqb a e) c (entryOf p e)
-
-entry-with : (e : ℕ) (f : Effect) (s : State) → e < entryCount → Formed s
-    → entryOf (stateWith f s .palette) e ≡ Option·getD (putsEntry e s f) (entryOf (s .palette) e)
-unfolding stateWith putsEntry withRegister withHeader withIndirect withDac
-entry-with e idle s h g = refl
-entry-with e (wroteRegister i bits w) s h g = refl
-entry-with e (wroteHeader i bits w o) s h g = refl
-entry-with e (wroteIndirect i bits w) s h g = refl
-entry-with e (setAddress v) s h g = refl
-entry-with e (wroteComponent v) s h g =
-    painted-entry (completedBy (s .dac) v) (s .palette) (s .dac .address) e
-    (record { red = g .red; green = g .green; blue = g .blue; stored = g .stored }) h
-entry-with e readComponent s h g = refl
-entry-with e (wroteMemory l) s h g = refl
+painted-entry : (o : Option Paint) (p : Palette) (e : ℕ) → Entries p → e < entryCount → entryOf (painted o p) e ≡ Option·getD (putsEntry e o) (entryOf p e)
+unfolding putsEntry
+painted-entry none p e l h = refl
+painted-entry (some x) p e l h = entry-stored p (x .entry) e (x .colour) l h ∙ entry-over (eqb (x .entry) e) (x .colour) (entryOf p e)
 
 pub entry-step : (e : ℕ) → e < entryCount → (x : World) (a : Access) → Good x
-    → entryOf (after x a .state .palette) e ≡ Option·getD (putsEntry e (x .state) (effectAt x a)) (entryOf (x .state .palette) e)
+    → entryOf (after x a .state .palette) e ≡ Option·getD (putsEntry e (patchAt x a .paint)) (entryOf (x .state .palette) e)
+unfolding applied
 entry-step e h x a g =
-    ap (λ (s : State). entryOf (s .palette) e) (after-state x a) ∙ entry-with e (effectAt x a) (x .state) h (g .formed)
+    let f = g .formed in
+    ap (λ (s : State). entryOf (s .palette) e) (after-state x a)
+    ∙ painted-entry (patchAt x a .paint) (x .state .palette) e (record { red = f .red; green = f .green; blue = f .blue; stored = f .stored }) h

@@ -12,7 +12,6 @@ use Rattle.bits.specs.Word.{outside, joined, parted, laneByte}
 use Rattle.bits.proofs.Cases.{byTest, pick-by}
 use Rattle.bits.proofs.Bools.{every-at}
 use Rattle.chip.specs.declared.Dac.{Dac}
-use Rattle.chip.specs.declared.Place.the-variants.{Register}
 use Rattle.chip.specs.Register.{faults}
 use Rattle.chip.specs.Dac.{aimedAt, advanced, afterPaint}
 use Rattle.chip.specs.Sound.{componentOk, addressOk}

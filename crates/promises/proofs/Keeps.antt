@@ -1,239 +1,157 @@
--- Every effect that an accepted access can have keeps a state a state.
--- The tests of refusal 1 one by one, for each place that an access can lead to. Assumes nothing.
+-- What an accepted access stores keeps a state a state.
+-- The tests of refusal 1 one by one, each by the part of the patch that it asks for. Assumes nothing.
 use Prim.Native.Nat.{ℕ, _<_}
-use mathlib.Core.Bool.{true}
+use mathlib.Core.Bool.{Bool, true, false, _&&_}
 use mathlib.Core.List.{List}
-use mathlib.Core.Option.{Option, none, some}
-use mathlib.Core.Path.{_≡_, refl, _∙_}
+use mathlib.Core.Option.{Option, none, some, Option·getD}
+use mathlib.Core.Path.{_≡_, refl, sym, ap, ap₂, _∙_, subst}
 use native.Mathlib.Omega.{arith}
-use borrow.Author.Tests.{eqb-true, leb-true, not-false}
-use lib.ListN.{length-set}
+use borrow.Author.Tests.{leb-true}
+use lib.ListN.{length, length-set}
+use Rattle.bits.specs.Choose.{pick}
 use Rattle.bits.specs.Bit.{bit}
-use Rattle.bits.specs.Word.{inside, lanesOf, laneByte}
-use Rattle.bits.proofs.Cases.{pick-by}
+use Rattle.bits.specs.Word.{laneByte}
+use Rattle.bits.proofs.Cases.{pick-by, pick-when}
+use Rattle.bits.proofs.Bools.{and-first, and-second}
 use Rattle.chip.specs.declared.State.{State}
 use Rattle.chip.specs.declared.Access.{Access}
 use Rattle.chip.specs.declared.Dac.{Dac}
 use Rattle.chip.specs.declared.Palette.{Palette}
-use Rattle.chip.specs.declared.Colour.{Colour}
-use Rattle.chip.specs.declared.Place.{Place}
-use Rattle.chip.specs.declared.Place.the-variants.{Register, Address, PaletteData, IndexedData, Window, Config, Blank, Nowhere}
-use Rattle.chip.specs.Region.{regionRow}
-use Rattle.chip.specs.Header.{headerRow}
-use Rattle.chip.specs.Subsystem.{headerMoved, headerOnce}
-use Rattle.chip.specs.Indirect.{indirectEntry}
-use Rattle.chip.specs.Register.{movedBits, broughtWord}
-use Rattle.chip.specs.Palette.{storeEntry, paletteOk}
-use Rattle.chip.specs.Dac.{addressKnown, aimedAt, afterPeek, afterPaint, completedBy}
-use Rattle.chip.specs.Aperture.{Put}
-use Rattle.chip.specs.State.{withRegister, withHeader, withIndirect, withDac}
-use Rattle.chip.specs.Sound.{onceOk}
-use Rattle.chip.specs.Refusal.{presentAt, laterLines, accessLines, statusOf}
-use Rattle.chip.specs.Effect.{Effect, idle, wroteRegister, wroteHeader, wroteIndirect, setAddress, wroteComponent, readComponent, wroteMemory, readEffect, writeEffect, storedWhen, stateWith}
+use Rattle.chip.specs.Palette.{paletteOk}
+use Rattle.chip.specs.Bank.{bankCount}
+use Rattle.chip.specs.Dac.{Paint, aimedAt, afterPeek, afterPaint}
+use Rattle.chip.specs.Patch.{Store, Patch, valued, learned, painted, applied}
 use Rattle.chip.specs.Place.{placeOf}
-use Rattle.chip.proofs.Lines.{none-holds}
+use Rattle.chip.specs.Port.{rowPatch, keptFrom}
+use Rattle.chip.specs.Refusal.{isWrite}
+use Rattle.chip.specs.Sound.{onceOk, bankSound}
+use Rattle.chip.specs.Trace.{World}
 use Rattle.chip.proofs.Entries.{Entries, entries-kept, palette-kept}
-use Rattle.promises.specs.Good.{Formed}
-use Rattle.promises.proofs.Sane.{Sane}
-use Rattle.promises.proofs.Registers.{region-kept, header-kept, once-kept, indirect-kept}
+use Rattle.promises.specs.Good.{Formed, Good}
+use Rattle.promises.specs.Reach.{reachAt}
+use Rattle.promises.specs.History.{accepted, patchAt, isAim, isData}
+use Rattle.promises.proofs.Sane.{Sane, sane}
+use Rattle.promises.proofs.Bank.{bank-kept, once-kept}
 use Rattle.promises.proofs.Dacs.{Settled, paint-advances, advanced-settled, aimed-settled, lane-byte-lt}
-
--- an accepted access finds something at its place
-pub found : (s : State) (ml pl : ℕ) (a : Access) → statusOf s ml pl a ≡ 0 → presentAt s (a .offset) (placeOf a) ≡ true
-unfolding statusOf accessLines laterLines
-found s ml pl a e = not-false (presentAt s (a .offset) (placeOf a)) (none-holds (accessLines s ml pl a) refl e 4)
-
--- palette data is accepted only where the address is known
-pub address-known : (s : State) (o : ℕ) → presentAt s o PaletteData ≡ true → s .dac .known ≡ 0xFF
-unfolding presentAt addressKnown
-address-known s o e = eqb-true (s .dac .known) 0xFF e
-
--- ---- a state after each effect
+use Rattle.promises.proofs.Does.{storeFrom, onceFrom, stepped, writes, Does, does}
+use Rattle.promises.proofs.Sites.{names, address-there}
 
 pub record Kept (s : State) : Type 0 where
   pub sane : Sane s
   pub formed : Formed s
 
+pub once-lt-four : (s : State) → Sane s → s .once < 4
+unfolding onceOk
+once-lt-four s z = omega (arith, leb-true (s .once) 3 (z .once))
+
 module _ (s : State) (z : Sane s) (f : Formed s) where
-  stored-kept : (i e word d : ℕ) → Kept (stateWith (wroteRegister i (movedBits (regionRow i) (lanesOf e) word) d) s)
-  unfolding stateWith withRegister
-  stored-kept i e word d =
+  -- ---- each part
+
+  record Banked (o : Option Store) (h : Option ℕ) : Type 0 where
+    once : onceOk (Option·getD h (s .once)) ≡ true
+    bank : bankSound (Option·getD h (s .once)) (valued o (s .values)) (learned o (s .knowns)) ≡ true
+
+  -- a write of the register in a row, if it is one
+  row-banked : (a : Access) (i : Option ℕ) → Banked (storeFrom s a i) (onceFrom s a i)
+  unfolding rowPatch
+  row-banked a none = record { once = z .once; bank = z .bank }
+  row-banked a (some i) =
+      record {
+        once = once-kept (s .once) i (a .enables) (z .once);
+        bank = bank-kept (s .values) (s .knowns) (s .once) i (a .enables) (a .word) _ (once-lt-four s z) (f .values) (f .knowns) (z .bank);
+      }
+
+  valued-length : (o : Option Store) → length (valued o (s .values)) ≡ bankCount
+  valued-length none = f .values
+  valued-length (some x) = length-set (s .values) (x .row) _ ∙ f .values
+
+  learned-length : (o : Option Store) → length (learned o (s .knowns)) ≡ bankCount
+  learned-length none = f .knowns
+  learned-length (some x) = length-set (s .knowns) (x .row) _ ∙ f .knowns
+
+  record Coloured (p : Palette) : Type 0 where
+    entries : Entries p
+    ok : paletteOk p ≡ true
+
+  entries-now : Entries (s .palette)
+  entries-now = record { red = f .red; green = f .green; blue = f .blue; stored = f .stored }
+
+  painted-kept : (o : Option Paint) → Coloured (painted o (s .palette))
+  painted-kept none = record { entries = entries-now; ok = z .palette }
+  painted-kept (some x) =
+      record {
+        entries = entries-kept (s .palette) (x .entry) (x .colour) entries-now;
+        ok = palette-kept (s .palette) (x .entry) (x .colour) entries-now (z .palette);
+      }
+
+  still-settled : Settled (s .dac)
+  still-settled = record { component = z .component; address = z .address; byte = f .address }
+
+  -- ---- the whole
+
+  applied-kept : (p : Patch) → Banked (p .store) (p .once) → Settled (Option·getD (p .dac) (s .dac)) → Kept (applied p s)
+  unfolding applied
+  applied-kept p b d =
+      let c = painted-kept (p .paint) in
       record {
         sane =
             record {
               panel = z .panel;
               memory = z .memory;
-              component = z .component;
-              address = z .address;
-              once = z .once;
-              region = region-kept (s .values) (s .knowns) i e word d (f .values) (f .knowns) (z .region);
-              header = z .header;
-              indirect = z .indirect;
-              palette = z .palette;
+              component = d .component;
+              address = d .address;
+              once = b .once;
+              bank = b .bank;
+              palette = c .ok;
             };
         formed =
             record {
-              values = length-set (s .values) i _ ∙ f .values;
-              knowns = length-set (s .knowns) i _ ∙ f .knowns;
-              header = f .header;
-              indirect = f .indirect;
-              red = f .red;
-              green = f .green;
-              blue = f .blue;
-              stored = f .stored;
-              address = f .address;
+              values = valued-length (p .store);
+              knowns = learned-length (p .store);
+              red = c .entries .red;
+              green = c .entries .green;
+              blue = c .entries .blue;
+              stored = c .entries .stored;
+              address = d .byte;
             };
       }
 
-  configured-kept : (i e word d : ℕ) → Kept (stateWith (wroteHeader i (headerMoved (s .once) i e word) d (headerOnce (s .once) i e)) s)
-  unfolding stateWith withHeader onceOk
-  configured-kept i e word d =
-      record {
-        sane =
-            record {
-              panel = z .panel;
-              memory = z .memory;
-              component = z .component;
-              address = z .address;
-              once = once-kept (s .once) i e (z .once);
-              region = z .region;
-              header = header-kept (s .header) (s .once) i e word d (omega (arith, leb-true (s .once) 3 (z .once))) (f .header) (z .header);
-              indirect = z .indirect;
-              palette = z .palette;
-            };
-        formed =
-            record {
-              values = f .values;
-              knowns = f .knowns;
-              header = length-set (s .header) i _ ∙ f .header;
-              indirect = f .indirect;
-              red = f .red;
-              green = f .green;
-              blue = f .blue;
-              stored = f .stored;
-              address = f .address;
-            };
-      }
+  -- a palette data access, where the address is known
+  stepped-settled : (a : Access) → s .dac .known ≡ 0xFF → Settled (stepped s a)
+  unfolding afterPeek
+  stepped-settled a k =
+      pick-by Settled (isWrite a) _ _
+      (paint-advances Settled (s .dac) (keptFrom s a) (λ n r g. advanced-settled (s .dac) n r g k (f .address)))
+      (advanced-settled (s .dac) 0 0 0 k (f .address))
 
-  indexed-kept : (i l d : ℕ) → Kept (stateWith (wroteIndirect i (inside l (indirectEntry i .writable)) d) s)
-  unfolding stateWith withIndirect
-  indexed-kept i l d =
-      record {
-        sane =
-            record {
-              panel = z .panel;
-              memory = z .memory;
-              component = z .component;
-              address = z .address;
-              once = z .once;
-              region = z .region;
-              header = z .header;
-              indirect = indirect-kept (s .indirect) i l d (f .indirect) (z .indirect);
-              palette = z .palette;
-            };
-        formed =
-            record {
-              values = f .values;
-              knowns = f .knowns;
-              header = f .header;
-              indirect = length-set (s .indirect) i _ ∙ f .indirect;
-              red = f .red;
-              green = f .green;
-              blue = f .blue;
-              stored = f .stored;
-              address = f .address;
-            };
-      }
+module _ (x : World) (a : Access) (g : Good x) where
+  data-known : isData x a ≡ true → x .state .dac .known ≡ 0xFF
+  unfolding isData
+  data-known e =
+      address-there (x .state) a (names (placeOf (x .state) a) .paints
+      (and-first (reachAt (placeOf (x .state) a) .paints) (bit 0 (a .enables)) (and-second (accepted x a) _ e)))
 
-  dac-kept : (d : Dac) (p : Palette) → Settled d → Entries p → paletteOk p ≡ true → Kept (withDac s d p)
-  unfolding withDac
-  dac-kept d p c n q =
-      record {
-        sane =
-            record {
-              panel = z .panel;
-              memory = z .memory;
-              component = c .component;
-              address = c .address;
-              once = z .once;
-              region = z .region;
-              header = z .header;
-              indirect = z .indirect;
-              palette = q;
-            };
-        formed =
-            record {
-              values = f .values;
-              knowns = f .knowns;
-              header = f .header;
-              indirect = f .indirect;
-              red = n .red;
-              green = n .green;
-              blue = n .blue;
-              stored = n .stored;
-              address = c .byte;
-            };
-      }
+  abbrev Bank : Option Store → Option ℕ → Type 0
+  Bank o h = Banked (x .state) (sane (x .state) (g .state)) (g .formed) o h
 
-  entries : Entries (s .palette)
-  entries = record { red = f .red; green = f .green; blue = f .blue; stored = f .stored }
+  bank-as : (o o′ : Option Store) (h h′ : Option ℕ) → o′ ≡ o → h′ ≡ h → Bank o h → Bank o′ h′
+  bank-as o o′ h h′ p q b = subst (λ (i : Option ℕ). Bank o′ i) (sym q) (subst (λ (i : Option Store). Bank i h) (sym p) b)
 
-  aimed-kept : (v : ℕ) → v < 256 → Kept (stateWith (setAddress v) s)
-  unfolding stateWith
-  aimed-kept v h = dac-kept (aimedAt v) (s .palette) (aimed-settled v h) entries (z .palette)
+  bank-when : (t : Bool) (o : Option Store) (h : Option ℕ) → Bank o h → Bank none none → Bank (pick t o none) (pick t h none)
+  bank-when true o h b c = b
+  bank-when false o h b c = c
 
-  peeked-kept : s .dac .known ≡ 0xFF → Kept (stateWith readComponent s)
-  unfolding stateWith afterPeek
-  peeked-kept k = dac-kept _ (s .palette) (advanced-settled (s .dac) 0 0 0 k (f .address)) entries (z .palette)
-
-  painted-kept : (v : ℕ) → s .dac .known ≡ 0xFF → Kept (stateWith (wroteComponent v) s)
-  unfolding stateWith
-  painted-kept v k =
-      let d : Settled (afterPaint (s .dac) v) = paint-advances Settled (s .dac) v (λ n r g. advanced-settled (s .dac) n r g k (f .address)) in
-      go d (completedBy (s .dac) v)
-    where
-      go : Settled (afterPaint (s .dac) v) → (o : Option Colour) → Kept (withDac s (afterPaint (s .dac) v) (storedWhen o (s .palette) (s .dac .address)))
-      go d none = dac-kept (afterPaint (s .dac) v) (s .palette) d entries (z .palette)
-      go d (some c) =
-          dac-kept (afterPaint (s .dac) v) (storeEntry (s .palette) (s .dac .address) c) d
-          (entries-kept (s .palette) (s .dac .address) c entries) (palette-kept (s .palette) (s .dac .address) c entries (z .palette))
-
-  same-kept : Kept s
-  same-kept = record { sane = z; formed = f }
-
-  pub idle-kept : Kept (stateWith idle s)
-  unfolding stateWith
-  idle-kept = same-kept
-
-  poked-kept : (l : List Put) → Kept (stateWith (wroteMemory l) s)
-  unfolding stateWith
-  poked-kept l = same-kept
-
-  -- a read
-  pub read-kept : (a : Access) (p : Place) → presentAt s (a .offset) p ≡ true → Kept (stateWith (readEffect a p) s)
-  unfolding readEffect
-  read-kept a (Register i) n = idle-kept
-  read-kept a Address n = idle-kept
-  read-kept a PaletteData n =
-      pick-by (λ (e : Effect). Kept (stateWith e s)) (bit 0 (a .enables)) readComponent idle (peeked-kept (address-known s (a .offset) n)) idle-kept
-  read-kept a IndexedData n = idle-kept
-  read-kept a (Window i) n = idle-kept
-  read-kept a (Config i) n = idle-kept
-  read-kept a Blank n = idle-kept
-  read-kept a Nowhere n = idle-kept
-
-  -- a write
-  pub write-kept : (a : Access) (p : Place) → presentAt s (a .offset) p ≡ true → Kept (stateWith (writeEffect s a p) s)
-  unfolding writeEffect
-  write-kept a (Register i) n = stored-kept i (a .enables) (a .word) (broughtWord (regionRow i) (a .word))
-  write-kept a Address n =
-      pick-by (λ (e : Effect). Kept (stateWith e s)) (bit 0 (a .enables)) (setAddress (laneByte 0 (a .word))) idle
-      (aimed-kept (laneByte 0 (a .word)) (lane-byte-lt 0 (a .word))) idle-kept
-  write-kept a PaletteData n =
-      pick-by (λ (e : Effect). Kept (stateWith e s)) (bit 0 (a .enables)) (wroteComponent _) idle
-      (painted-kept _ (address-known s (a .offset) n)) idle-kept
-  write-kept a IndexedData n = indexed-kept (s .dac .address) (lanesOf (a .enables)) (a .word)
-  write-kept a (Window i) n = poked-kept _
-  write-kept a (Config i) n = configured-kept i (a .enables) (a .word) (broughtWord (headerRow i) (a .word))
-  write-kept a Blank n = idle-kept
-  write-kept a Nowhere n = idle-kept
+  -- what an access stores, accepted or refused, leaves a state
+  pub patch-kept : Kept (applied (patchAt x a) (x .state))
+  patch-kept =
+      let z = sane (x .state) (g .state) in
+      let f = g .formed in
+      let d = does x a in
+      applied-kept (x .state) z f (patchAt x a)
+      (bank-as _ _ _ _ (d .store) (d .once)
+      (bank-when (writes x a) _ _ (row-banked (x .state) z f a (reachAt (placeOf (x .state) a) .row)) (row-banked (x .state) z f a none)))
+      (subst (λ (o : Option Dac). Settled (Option·getD o (x .state .dac))) (sym (d .dac))
+      (pick-by (λ (o : Option Dac). Settled (Option·getD o (x .state .dac))) (isAim x a) _ _
+      (aimed-settled _ (lane-byte-lt 0 (a .word)))
+      (pick-when (λ (o : Option Dac). Settled (Option·getD o (x .state .dac))) (isData x a) _ none
+      (λ q. stepped-settled (x .state) z f a (data-known q)) (λ q. still-settled (x .state) z f))))

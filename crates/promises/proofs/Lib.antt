@@ -1,9 +1,10 @@
 pub mod Sane
 pub mod Moved
-pub mod Registers
+pub mod Bank
 pub mod Dacs
+pub mod Does
+pub mod Sites
 pub mod Keeps
-pub mod Proper
 pub mod Worlds
 pub mod Along
 pub mod Contents

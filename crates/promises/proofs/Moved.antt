@@ -4,16 +4,15 @@ use Prim.Native.Nat.{ℕ, _+_, _/_, _^_, _<_}
 use mathlib.Core.Bool.{Bool, true, false, not, _&&_, _||_, Bool·beq}
 use mathlib.Core.Path.{_≡_, refl, sym, ap, _∙_}
 use native.Mathlib.Omega.{arith}
-use lib.Bits.{or-lt, and-zero-r}
+use lib.Bits.{or-lt}
 use Rattle.bits.specs.Choose.{pick, everyTo}
 use Rattle.bits.specs.Bit.{bit}
 use Rattle.bits.specs.Word.{outside, joined, lanesOf}
 use Rattle.bits.proofs.Cases.{pick-by}
 use Rattle.bits.proofs.Bools.{every-at}
-use Rattle.bits.proofs.Single.{bit-of-zero, no-bits}
+use Rattle.bits.proofs.Single.{no-bits}
 use Rattle.bits.proofs.Words.{clear, clear-not, bit-inside, bit-joined, bit-outside, inside-lt-left, outside-lt, joined-lt, lanes-lt, beq-true}
 use Rattle.chip.specs.Row.{Row}
-use Rattle.chip.specs.Header.{headerRow, subsystem}
 use Rattle.chip.specs.Subsystem.{halvesOf, halfBits, onceMoved, onceAfter}
 use Rattle.chip.specs.Register.{mayChange, movedBits}
 
@@ -36,20 +35,6 @@ moved-within r lanes word h =
     no-bits 32 _ (outside-lt _ _) (λ b hb.
     simp (bit-outside, bit-inside, bit-joined, clear-not b (joined (r .writable) (r .clears)) hb h)
     (moved-bit (bit b lanes) (bit b (r .writable)) (bit b (r .clears)) (bit b word)))
-
--- where every bit of m is in u and every bit of u in k, every bit of m is in k
-outside-trans-bit : (m u k : Bool) → (m && not u) ≡ false → (u && not k) ≡ false → (m && not k) ≡ false
-outside-trans-bit true true k p q = q
-outside-trans-bit true false k p q = cc
-outside-trans-bit false u k p q = refl
-
-pub outside-trans : (m u k : ℕ) → u < 2 ^ 32 → k < 2 ^ 32 → outside m u ≡ 0 → outside u k ≡ 0 → outside m k ≡ 0
-outside-trans m u k hu hk p q =
-    no-bits 32 _ (outside-lt m k) (λ b hb.
-    bit-outside b m k ∙ ap (λ (t : Bool). bit b m && t) (clear-not b k hb hk)
-    ∙ outside-trans-bit (bit b m) (bit b u) (bit b k)
-    (ap (λ (t : Bool). bit b m && t) (sym (clear-not b u hb hu)) ∙ sym (bit-outside b m u) ∙ ap (bit b) p ∙ bit-of-zero b)
-    (ap (λ (t : Bool). bit b u && t) (sym (clear-not b k hb hk)) ∙ sym (bit-outside b u k) ∙ ap (bit b) q ∙ bit-of-zero b))
 
 -- ---- the subsystem numbers
 
@@ -118,8 +103,3 @@ once-clear o e b h hb t =
 pub once-moved-lt : (o e : ℕ) → onceMoved o e < 2 ^ 32
 unfolding onceMoved
 once-moved-lt o e = outside-lt _ _
-
--- the subsystem row's bits are all known
-pub subsystem-known : (m : ℕ) → m < 2 ^ 32 → outside m (headerRow subsystem .known) ≡ 0
-unfolding headerRow Rattle.chip.specs.Header.headerRows outside
-subsystem-known m h = and-zero-r m

@@ -1,8 +1,8 @@
 -- An access alters only what it may: a bit, an entry, a byte that it does not reach is as before.
--- The effect of an access, by the place that it leads to, puts nothing where the access does not reach. Assumes nothing.
-use Prim.Native.Nat.{ℕ, _+_, _-_, _*_, _/_, _<_}
+-- What an access stores, part by part, puts nothing where the access does not reach. Assumes nothing.
+use Prim.Native.Nat.{ℕ, _+_, _-_, _*_, _/_, _≤_, _<_}
 use mathlib.Core.Bool.{Bool, true, false, not, _&&_, _||_, Bool·beq}
-use mathlib.Core.List.{List}
+use mathlib.Core.List.{List, []}
 use mathlib.Core.Option.{Option, none, some, Option·getD}
 use mathlib.Core.Path.{_≡_, refl, sym, ap, ap₂, _∙_, subst}
 use native.Mathlib.Omega.{arith}
@@ -11,105 +11,45 @@ use lib.Dec.{eqb}
 use lib.ListN.{getD, length}
 use Rattle.bits.specs.Choose.{pick, everyTo}
 use Rattle.bits.specs.Bit.{bit}
-use Rattle.bits.specs.Word.{lanesOf}
-use Rattle.bits.proofs.Cases.{byTest, pick-by, pick-when}
-use Rattle.bits.proofs.Bools.{clash, every-at}
+use Rattle.bits.specs.Word.{lanesOf, laneByte}
+use Rattle.bits.proofs.Cases.{byTest, pick-when}
+use Rattle.bits.proofs.Bools.{and-first, and-second, and-both, clash, every-at}
 use Rattle.bits.proofs.Words.{clear-not, bit-inside, bit-joined, bit-outside, lane-bit, beq-true}
 use Rattle.chip.specs.declared.State.{State}
 use Rattle.chip.specs.declared.Access.{Access}
 use Rattle.chip.specs.declared.Colour.{Colour}
 use Rattle.chip.specs.declared.Dac.{Dac}
 use Rattle.chip.specs.declared.Place.{Place}
-use Rattle.chip.specs.declared.Place.the-variants.{Register, Address, PaletteData, IndexedData, Window, Config, Blank, Nowhere}
+use Rattle.chip.specs.declared.Place.the-variants.{Window}
 use Rattle.chip.specs.Row.{Row}
-use Rattle.chip.specs.Region.{regionRow}
-use Rattle.chip.specs.Header.{headerRow, subsystem}
-use Rattle.chip.specs.Subsystem.{halvesOf, halfBits, onceMoved, headerMoved}
-use Rattle.chip.specs.Indirect.{indirectEntry}
+use Rattle.chip.specs.Bank.{bankRow, subsystem}
+use Rattle.chip.specs.Subsystem.{halvesOf, halfBits, onceMoved, storedBits}
 use Rattle.chip.specs.Register.{mayChange, movedBits}
 use Rattle.chip.specs.Palette.{entryCount, entryOf}
-use Rattle.chip.specs.Dac.{bothStaged, completedBy}
-use Rattle.chip.specs.Aperture.{Put, laneOf, reachesMemory}
-use Rattle.chip.specs.State.{withRegister, withHeader, withIndirect, withDac}
+use Rattle.chip.specs.Dac.{Paint, bothStaged, completedBy}
+use Rattle.chip.specs.Aperture.{Put, laneOf, reachesMemory, putAll}
+use Rattle.chip.specs.Patch.{Store, memoryWith}
 use Rattle.chip.specs.Place.{placeOf}
-use Rattle.chip.specs.Refusal.{isWrite, presentAt}
-use Rattle.chip.specs.Effect.{Effect, idle, wroteRegister, wroteHeader, wroteIndirect, setAddress, wroteComponent, readComponent, wroteMemory, readEffect, writeEffect, stateWith, memoryWith}
-use Rattle.chip.specs.Sound.{onceOk}
-use Rattle.chip.specs.Step.{effectOf}
+use Rattle.chip.specs.Port.{rowPatch, keptFrom, pokePatch, portAt}
+use Rattle.chip.specs.Refusal.{isWrite, portOf}
 use Rattle.chip.specs.Trace.{World, after}
 use Rattle.chip.proofs.Poked.{reached, byte-after}
-use Rattle.chip.proofs.Lent.{read-memory}
-use Rattle.promises.specs.Good.{Formed, Good, statusAt}
-use Rattle.promises.specs.History.{effectAt, Spot, region, header, indirect, putIf, putsBit, wrapped, putsEntry, putsDac}
-use Rattle.promises.specs.Frame.{headerReach, reachFrom, reaches, valueAt, knownAt, SameBit, turnsFrom, storesFrom, pokesFrom}
+use Rattle.promises.specs.Good.{Good, statusAt}
+use Rattle.promises.specs.Reach.{reachAt}
+use Rattle.promises.specs.History.{accepted, patchAt, Spot, Real, putsBit, putsEntry, isData, isAim}
+use Rattle.promises.specs.Frame.{bitReach, rowReach, reaches, SameBit, turns, completes, windowReach, pokes}
+use Rattle.promises.specs.Origin.{entryPut, dacPut}
 use Rattle.promises.proofs.Sane.{sane}
 use Rattle.promises.proofs.Moved.{half-bit, half-lt, halves-lt}
-use Rattle.promises.proofs.Keeps.{found}
-use Rattle.promises.proofs.Proper.{Proper, effect-proper}
-use Rattle.promises.proofs.Worlds.{after-state, after-memory}
-use Rattle.promises.proofs.Contents.{Real, value-set, known-set, entry-step}
-use Rattle.promises.proofs.Shown.{enables-lt}
+use Rattle.promises.proofs.Does.{storeFrom, putsFrom, stepped, writes, does}
+use Rattle.promises.proofs.Sites.{names}
+use Rattle.promises.proofs.Keeps.{once-lt-four}
+use Rattle.promises.proofs.Worlds.{after-memory}
+use Rattle.promises.proofs.Contents.{same-step, entry-step}
+use Rattle.promises.proofs.Shown.{enables-lt, found}
 use Rattle.promises.proofs.Address.{dac-step}
 
--- ---- a bit that an effect puts nothing into is as before
-
-not-put : (i r b bits word : ℕ) → putIf i r b bits word ≡ none → (eqb i r && bit b bits) ≡ false
-unfolding putIf
-not-put i r b bits word e =
-    byTest (eqb i r && bit b bits) (λ q. never (simp q at e)) (λ q. q)
-  where
-    never : _≡_ {A = Option (Option Bool)} (some (some (bit b word))) none → (eqb i r && bit b bits) ≡ false
-    never e = absurd (let z : _≡_ {A = ℕ} 0 1 = cc in omega arith)
-
-same-with : (q : Spot) (e : Effect) (s : State) → Real q → Proper e → Formed s → putsBit q e ≡ none → SameBit s (stateWith e s) q
-unfolding valueAt knownAt putsBit stateWith withRegister withHeader withIndirect withDac Real Proper
-same-with (region r b) idle s h p f e = record { value = refl; known = refl }
-same-with (region r b) (wroteRegister i bits w) s h p f e =
-    let n = not-put i r b bits w e in
-    record {
-      value = value-set (s .values) i r b bits w (omega (arith, f .values, h .0)) (h .1) p ∙ ap (λ (t : Bool). pick t (bit b w) (bit b (getD (s .values) r 0))) n;
-      known = known-set (s .knowns) i r b bits w (omega (arith, f .knowns, h .0)) (h .1) p ∙ ap (λ (t : Bool). pick t true (bit b (getD (s .knowns) r 0))) n;
-    }
-same-with (region r b) (wroteHeader i bits w o) s h p f e = record { value = refl; known = refl }
-same-with (region r b) (wroteIndirect i bits w) s h p f e = record { value = refl; known = refl }
-same-with (region r b) (setAddress v) s h p f e = record { value = refl; known = refl }
-same-with (region r b) (wroteComponent v) s h p f e = record { value = refl; known = refl }
-same-with (region r b) readComponent s h p f e = record { value = refl; known = refl }
-same-with (region r b) (wroteMemory l) s h p f e = record { value = refl; known = refl }
-same-with (header r b) idle s h p f e = record { value = refl; known = refl }
-same-with (header r b) (wroteRegister i bits w) s h p f e = record { value = refl; known = refl }
-same-with (header r b) (wroteHeader i bits w o) s h p f e =
-    record {
-      value =
-          value-set (s .header) i r b bits w (omega (arith, f .header, h .0)) (h .1) (p .0)
-          ∙ ap (λ (t : Bool). pick t (bit b w) (bit b (getD (s .header) r 0))) (not-put i r b bits w e);
-      known = refl;
-    }
-same-with (header r b) (wroteIndirect i bits w) s h p f e = record { value = refl; known = refl }
-same-with (header r b) (setAddress v) s h p f e = record { value = refl; known = refl }
-same-with (header r b) (wroteComponent v) s h p f e = record { value = refl; known = refl }
-same-with (header r b) readComponent s h p f e = record { value = refl; known = refl }
-same-with (header r b) (wroteMemory l) s h p f e = record { value = refl; known = refl }
-same-with (indirect r b) idle s h p f e = record { value = refl; known = refl }
-same-with (indirect r b) (wroteRegister i bits w) s h p f e = record { value = refl; known = refl }
-same-with (indirect r b) (wroteHeader i bits w o) s h p f e = record { value = refl; known = refl }
-same-with (indirect r b) (wroteIndirect i bits w) s h p f e =
-    record {
-      value =
-          value-set (s .indirect) i r b bits w (omega (arith, f .indirect, h .0)) (h .1) (p .0)
-          ∙ ap (λ (t : Bool). pick t (bit b w) (bit b (getD (s .indirect) r 0))) (not-put i r b bits w e);
-      known = refl;
-    }
-same-with (indirect r b) (setAddress v) s h p f e = record { value = refl; known = refl }
-same-with (indirect r b) (wroteComponent v) s h p f e = record { value = refl; known = refl }
-same-with (indirect r b) readComponent s h p f e = record { value = refl; known = refl }
-same-with (indirect r b) (wroteMemory l) s h p f e = record { value = refl; known = refl }
-
 -- ---- an access puts nothing into a bit that it does not reach
-
-nothing-put : (i r b bits word : ℕ) → (eqb i r && bit b bits) ≡ false → putIf i r b bits word ≡ none
-unfolding putIf
-nothing-put i r b bits word e = simp e
 
 -- bit b of what a register write stores lies in its lane and in what a write may change
 moved-reach : (l w c x : Bool) → (l && (w || c)) ≡ false → (l && (w || (c && x))) ≡ false
@@ -156,210 +96,126 @@ once-outside o e b ho he hb q =
     (clear-not b (halfBits o) hb (half-lt o ho) ∙ ap not (half-bit o b ho hb))
     ∙ turn (bit (b / 16) o) (bit (2 * (b / 16)) e && bit (2 * (b / 16) + 1) e) q
 
-header-outside : (s : State) (a : Access) (r b : ℕ) → s .once < 4 → a .enables < 16 → b < 32 → headerReach s a r b ≡ false
-    → bit b (headerMoved (s .once) r (a .enables) (a .word)) ≡ false
-unfolding headerReach headerMoved
-header-outside s a r b ho he hb q =
+stored-outside : (s : State) (a : Access) (r b : ℕ) → s .once < 4 → a .enables < 16 → b < 32 → bitReach s a r b ≡ false
+    → bit b (storedBits (s .once) r (a .enables) (a .word)) ≡ false
+unfolding bitReach storedBits
+stored-outside s a r b ho he hb q =
     byTest (eqb r subsystem)
     (λ t. simp t (once-outside (s .once) (a .enables) b ho he hb (simp t at q)))
-    (λ t. simp t (moved-outside (headerRow r) (a .enables) b (a .word) he hb (simp t at q)))
+    (λ t. simp t (moved-outside (bankRow r) (a .enables) b (a .word) he hb (simp t at q)))
 
--- what puts nothing into any register
-pub idle-quiet : (q : Spot) → putsBit q idle ≡ none
+row-quiet : (s : State) (a : Access) (i : Option ℕ) (q : Spot) → Real q → s .once < 4 → a .enables < 16 → rowReach s a i q ≡ false
+    → putsBit q (storeFrom s a i) ≡ none
+unfolding rowReach putsBit rowPatch
+row-quiet s a none q h ho he e = refl
+row-quiet s a (some i) q h ho he e =
+    simp (and-step (eqb i (q .row)) (bitReach s a (q .row) (q .b)) (bit (q .b) (storedBits (s .once) i (a .enables) (a .word))) e
+    (λ t u. stored-outside s a i (q .b) ho he (h .bit) (subst (λ (k : ℕ). bitReach s a k (q .b) ≡ false) (sym (eqb-true i (q .row) t)) u)))
+
+-- an accepted access has status 0
+pub done : (x : World) (a : Access) → accepted x a ≡ true → statusAt x a ≡ 0
+unfolding accepted
+done x a e = eqb-true (statusAt x a) 0 e
+
+no-store : (q : Spot) → putsBit q none ≡ none
 unfolding putsBit
-idle-quiet (region r b) = refl
-idle-quiet (header r b) = refl
-idle-quiet (indirect r b) = refl
+no-store q = refl
 
-pub aim-quiet : (q : Spot) (v : ℕ) → putsBit q (setAddress v) ≡ none
-unfolding putsBit
-aim-quiet (region r b) v = refl
-aim-quiet (header r b) v = refl
-aim-quiet (indirect r b) v = refl
-
-pub paint-quiet : (q : Spot) (v : ℕ) → putsBit q (wroteComponent v) ≡ none
-unfolding putsBit
-paint-quiet (region r b) v = refl
-paint-quiet (header r b) v = refl
-paint-quiet (indirect r b) v = refl
-
-peek-quiet : (q : Spot) → putsBit q readComponent ≡ none
-unfolding putsBit
-peek-quiet (region r b) = refl
-peek-quiet (header r b) = refl
-peek-quiet (indirect r b) = refl
-
-pub poke-quiet : (q : Spot) (l : List Put) → putsBit q (wroteMemory l) ≡ none
-unfolding putsBit
-poke-quiet (region r b) l = refl
-poke-quiet (header r b) l = refl
-poke-quiet (indirect r b) l = refl
-
-write-quiet : (s : State) (a : Access) (p : Place) (q : Spot) → Real q → s .once < 4 → a .enables < 16 → reachFrom s a p q ≡ false
-    → putsBit q (writeEffect s a p) ≡ none
-unfolding reachFrom writeEffect putsBit Real
-write-quiet s a (Register i) (region r b) h ho he e =
-    nothing-put i r b _ _
-    (and-step (eqb i r) _ _ e (λ t u.
-    moved-outside (regionRow i) (a .enables) b (a .word) he (h .1)
-    (subst (λ (k : ℕ). (bit (b / 8) (a .enables) && bit b (mayChange (regionRow k))) ≡ false) (sym (eqb-true i r t)) u)))
-write-quiet s a (Register i) (header r b) h ho he e = refl
-write-quiet s a (Register i) (indirect r b) h ho he e = refl
-write-quiet s a Address q h ho he e = pick-by (λ (f : Effect). putsBit q f ≡ none) (bit 0 (a .enables)) _ idle (aim-quiet q _) (idle-quiet q)
-write-quiet s a PaletteData q h ho he e = pick-by (λ (f : Effect). putsBit q f ≡ none) (bit 0 (a .enables)) _ idle (paint-quiet q _) (idle-quiet q)
-write-quiet s a IndexedData (region r b) h ho he e = refl
-write-quiet s a IndexedData (header r b) h ho he e = refl
-write-quiet s a IndexedData (indirect i b) h ho he e =
-    nothing-put (s .dac .address) i b _ _
-    (and-step (eqb (s .dac .address) i) _ _ e (λ t u.
-    bit-inside b (lanesOf (a .enables)) _ ∙ ap (λ (x : Bool). x && bit b (indirectEntry (s .dac .address) .writable)) (lane-bit b (a .enables) (h .1) he)
-    ∙ subst (λ (k : ℕ). (bit (b / 8) (a .enables) && bit b (indirectEntry k .writable)) ≡ false) (sym (eqb-true (s .dac .address) i t)) u))
-write-quiet s a (Window i) q h ho he e = poke-quiet q _
-write-quiet s a (Config i) (region r b) h ho he e = refl
-write-quiet s a (Config i) (header r b) h ho he e =
-    nothing-put i r b _ _
-    (and-step (eqb i r) _ _ e (λ t u.
-    header-outside s a i b ho he (h .1) (subst (λ (k : ℕ). headerReach s a k b ≡ false) (sym (eqb-true i r t)) u)))
-write-quiet s a (Config i) (indirect r b) h ho he e = refl
-write-quiet s a Blank q h ho he e = idle-quiet q
-write-quiet s a Nowhere q h ho he e = idle-quiet q
-
-pub read-quiet : (a : Access) (p : Place) (q : Spot) → putsBit q (readEffect a p) ≡ none
-unfolding readEffect
-read-quiet a (Register i) q = idle-quiet q
-read-quiet a Address q = idle-quiet q
-read-quiet a PaletteData q = pick-by (λ (f : Effect). putsBit q f ≡ none) (bit 0 (a .enables)) readComponent idle (peek-quiet q) (idle-quiet q)
-read-quiet a IndexedData q = idle-quiet q
-read-quiet a (Window i) q = idle-quiet q
-read-quiet a (Config i) q = idle-quiet q
-read-quiet a Blank q = idle-quiet q
-read-quiet a Nowhere q = idle-quiet q
-
-once-lt-four : (x : World) → Good x → x .state .once < 4
-unfolding onceOk
-once-lt-four x g = omega (arith, leb-true (x .state .once) 3 (sane (x .state) (g .state) .once))
-
--- by what an access does: as a write, as a read, or nothing
-pub effect-by : (P : Effect → Type 0) (x : World) (a : Access)
-    → (isWrite a ≡ true → statusAt x a ≡ 0 → P (writeEffect (x .state) a (placeOf a)))
-    → (isWrite a ≡ false → statusAt x a ≡ 0 → P (readEffect a (placeOf a))) → P idle → P (effectAt x a)
-unfolding effectAt effectOf
-effect-by P x a w r i =
-    pick-when P (eqb (statusAt x a) 0) _ idle
-    (λ q. pick-when P (isWrite a) _ _ (λ t. w t (eqb-true (statusAt x a) 0 q)) (λ t. r t (eqb-true (statusAt x a) 0 q)))
-    (λ q. i)
-
-pub quiet : (x : World) (a : Access) (q : Spot) → Good x → Real q → reaches (x .state) a q ≡ false → putsBit q (effectAt x a) ≡ none
+pub quiet : (x : World) (a : Access) (q : Spot) → Good x → Real q → reaches (x .state) a q ≡ false → putsBit q (patchAt x a .store) ≡ none
 unfolding reaches
 quiet x a q g h e =
-    effect-by (λ (f : Effect). putsBit q f ≡ none) x a
-    (λ t d. write-quiet (x .state) a (placeOf a) q h (once-lt-four x g) (enables-lt (x .state) _ _ a d) (simp t at e))
-    (λ t d. read-quiet a (placeOf a) q) (idle-quiet q)
+    subst (λ (o : Option Store). putsBit q o ≡ none) (sym (does x a .store))
+    (pick-when (λ (o : Option Store). putsBit q o ≡ none) (writes x a) _ none
+    (λ t. row-quiet (x .state) a (reachAt (placeOf (x .state) a) .row) q h (once-lt-four (x .state) (sane (x .state) (g .state)))
+    (enables-lt (x .state) _ _ a (done x a (and-first (accepted x a) (isWrite a) t)))
+    (simp (and-second (accepted x a) (isWrite a) t) at e))
+    (λ t. no-store q))
 
 -- a register's bit that an access does not reach is as before, in value and in being known
 pub same-bit : (x : World) (a : Access) (q : Spot) → Good x → Real q → reaches (x .state) a q ≡ false → SameBit (x .state) (after x a .state) q
-same-bit x a q g h e =
-    subst (λ (n : State). SameBit (x .state) n q) (sym (after-state x a))
-    (same-with q (effectAt x a) (x .state) h (effect-proper x a) (g .formed) (quiet x a q g h e))
+same-bit x a q g h e = same-step q h x a g (quiet x a q g h e)
 
 -- ---- palette entries
 
-write-entry : (s : State) (a : Access) (e : ℕ) (p : Place) → isWrite a ≡ true → storesFrom s a e p ≡ false → putsEntry e s (writeEffect s a p) ≡ none
-unfolding storesFrom writeEffect putsEntry completedBy
-write-entry s a e (Register i) w q = refl
-write-entry s a e Address w q = pick-by (λ (f : Effect). putsEntry e s f ≡ none) (bit 0 (a .enables)) _ idle refl refl
-write-entry s a e PaletteData w q =
-    pick-when (λ (f : Effect). putsEntry e s f ≡ none) (bit 0 (a .enables)) (wroteComponent _) idle
-    (λ t. third (eqb (s .dac .component) 2 && bothStaged (s .dac)) (eqb (s .dac .address) e) _ (simp (w, t) at q)) (λ t. refl)
-  where
-    third : (u v : Bool) (c : Colour) → (u && v) ≡ false → pick v (wrapped (pick u (some c) none)) none ≡ none
-    third true true c z = absurd (let y : _≡_ {A = ℕ} 0 1 = cc in omega arith)
-    third true false c z = refl
-    third false true c z = refl
-    third false false c z = refl
-write-entry s a e IndexedData w q = refl
-write-entry s a e (Window i) w q = refl
-write-entry s a e (Config i) w q = refl
-write-entry s a e Blank w q = refl
-write-entry s a e Nowhere w q = refl
+third : (u : Bool) (i e : ℕ) (c : Colour) → (u && eqb i e) ≡ false → putsEntry e (pick u (some (record { entry = i; colour = c })) none) ≡ none
+unfolding putsEntry
+third true i e c z = simp z
+third false i e c z = refl
 
-read-entry : (s : State) (a : Access) (e : ℕ) (p : Place) → putsEntry e s (readEffect a p) ≡ none
-unfolding readEffect putsEntry
-read-entry s a e (Register i) = refl
-read-entry s a e Address = refl
-read-entry s a e PaletteData = pick-by (λ (f : Effect). putsEntry e s f ≡ none) (bit 0 (a .enables)) readComponent idle refl refl
-read-entry s a e IndexedData = refl
-read-entry s a e (Window i) = refl
-read-entry s a e (Config i) = refl
-read-entry s a e Blank = refl
-read-entry s a e Nowhere = refl
+no-paint : (e : ℕ) → putsEntry e none ≡ none
+unfolding putsEntry
+no-paint e = refl
+
+entry-quiet : (x : World) (a : Access) (e : ℕ) → completes (x .state) a e ≡ false → entryPut e x a ≡ none
+unfolding completes completedBy isData
+entry-quiet x a e q =
+    subst (λ (o : Option Paint). putsEntry e o ≡ none) (sym (does x a .paint))
+    (pick-when (λ (o : Option Paint). putsEntry e o ≡ none) (isWrite a && isData x a) _ none
+    (λ t.
+    let w = and-first (isWrite a) _ t in
+    let r = and-second (accepted x a) _ (and-second (isWrite a) _ t) in
+    third (eqb (x .state .dac .component) 2 && bothStaged (x .state .dac)) (x .state .dac .address) e _
+    (simp (w, and-first (reachAt (placeOf (x .state) a) .paints) _ r, and-second (reachAt (placeOf (x .state) a) .paints) _ r) at q))
+    (λ t. no-paint e))
 
 -- an entry that an access does not complete is as before
-pub same-entry : (x : World) (a : Access) (e : ℕ) → Good x → e < entryCount → storesFrom (x .state) a e (placeOf a) ≡ false
+pub same-entry : (x : World) (a : Access) (e : ℕ) → Good x → e < entryCount → completes (x .state) a e ≡ false
     → entryOf (after x a .state .palette) e ≡ entryOf (x .state .palette) e
-unfolding putsEntry
 same-entry x a e g h q =
-    entry-step e h x a g
-    ∙ ap (λ (o : Option (Option Colour)). Option·getD o (entryOf (x .state .palette) e))
-    (effect-by (λ (f : Effect). putsEntry e (x .state) f ≡ none) x a
-    (λ t d. write-entry (x .state) a e (placeOf a) t q) (λ t d. read-entry (x .state) a e (placeOf a)) refl)
+    entry-step e h x a g ∙ ap (λ (o : Option (Option Colour)). Option·getD o (entryOf (x .state .palette) e)) (entry-quiet x a e q)
 
 -- ---- the address, the component and the stage
 
-write-dac : (s : State) (a : Access) (p : Place) → isWrite a ≡ true → turnsFrom a p ≡ false → putsDac s (writeEffect s a p) ≡ none
-unfolding turnsFrom writeEffect putsDac
-write-dac s a (Register i) w q = refl
-write-dac s a Address w q = pick-when (λ (f : Effect). putsDac s f ≡ none) (bit 0 (a .enables)) _ idle (λ t. clash (bit 0 (a .enables)) t (simp w at q)) (λ t. refl)
-write-dac s a PaletteData w q = pick-when (λ (f : Effect). putsDac s f ≡ none) (bit 0 (a .enables)) _ idle (λ t. clash (bit 0 (a .enables)) t q) (λ t. refl)
-write-dac s a IndexedData w q = refl
-write-dac s a (Window i) w q = refl
-write-dac s a (Config i) w q = refl
-write-dac s a Blank w q = refl
-write-dac s a Nowhere w q = refl
+or-parts : (u v l : Bool) → ((u || v) && l) ≡ false → ((u && l) ≡ false) × ((v && l) ≡ false)
+or-parts true true l e = (e, e)
+or-parts true false l e = (e, refl)
+or-parts false v l e = (refl, e)
 
-read-dac : (s : State) (a : Access) (p : Place) → turnsFrom a p ≡ false → putsDac s (readEffect a p) ≡ none
-unfolding turnsFrom readEffect putsDac
-read-dac s a (Register i) q = refl
-read-dac s a Address q = refl
-read-dac s a PaletteData q = pick-when (λ (f : Effect). putsDac s f ≡ none) (bit 0 (a .enables)) _ idle (λ t. clash (bit 0 (a .enables)) t q) (λ t. refl)
-read-dac s a IndexedData q = refl
-read-dac s a (Window i) q = refl
-read-dac s a (Config i) q = refl
-read-dac s a Blank q = refl
-read-dac s a Nowhere q = refl
+under : (t u : Bool) → u ≡ false → (t && u) ≡ false
+under true u e = e
+under false u e = refl
+
+regroup : (w a l : Bool) → ((w && a) && l) ≡ false → (w && (a && l)) ≡ false
+regroup true a l e = e
+regroup false a l e = refl
 
 -- an access to anything else leaves the address, the component and the stage
-pub same-dac : (x : World) (a : Access) → turnsFrom a (placeOf a) ≡ false → after x a .state .dac ≡ x .state .dac
-unfolding putsDac
+pub same-dac : (x : World) (a : Access) → turns (x .state) a ≡ false → after x a .state .dac ≡ x .state .dac
+unfolding turns isAim isData
 same-dac x a q =
+    let p = or-parts (isWrite a && reachAt (placeOf (x .state) a) .aims) (reachAt (placeOf (x .state) a) .paints) (bit 0 (a .enables)) q in
     dac-step x a
     ∙ ap (λ (o : Option Dac). Option·getD o (x .state .dac))
-    (effect-by (λ (f : Effect). putsDac (x .state) f ≡ none) x a
-    (λ t d. write-dac (x .state) a (placeOf a) t q) (λ t d. read-dac (x .state) a (placeOf a) q) refl)
+    (simp (
+      under (accepted x a) _ (regroup (isWrite a) (reachAt (placeOf (x .state) a) .aims) (bit 0 (a .enables)) (p .0)),
+      under (accepted x a) _ (p .1),
+    ) at (does x a .dac))
 
 -- ---- memory
 
--- a byte after a write that leads to a place
-write-byte : (s : State) (m : List ℕ) (a : Access) (k : ℕ) (p : Place) → length m ≡ s .fitted → presentAt s (a .offset) p ≡ true → isWrite a ≡ true
-    → pokesFrom s a k p ≡ false → getD (memoryWith (writeEffect s a p) m) k 0 ≡ getD m k 0
-unfolding pokesFrom writeEffect memoryWith presentAt reachesMemory reached
-write-byte s m a k (Register i) l n w q = refl
-write-byte s m a k Address l n w q = pick-by (λ (f : Effect). getD (memoryWith f m) k 0 ≡ getD m k 0) (bit 0 (a .enables)) _ idle refl refl
-write-byte s m a k PaletteData l n w q = pick-by (λ (f : Effect). getD (memoryWith f m) k 0 ≡ getD m k 0) (bit 0 (a .enables)) _ idle refl refl
-write-byte s m a k IndexedData l n w q = refl
-write-byte s m a k (Window i) l n w q =
-    byte-after (getD (s .values) i 0) (a .offset) (a .enables) (a .word) m (omega (arith, leb-true (a .offset + 4) (s .fitted) n)) k
-    ∙ ap (λ (t : Bool). pick t (Rattle.bits.specs.Word.laneByte (laneOf (getD (s .values) i 0) (k - a .offset)) (a .word)) (getD m k 0)) (simp w at q)
-write-byte s m a k (Config i) l n w q = refl
-write-byte s m a k Blank l n w q = refl
-write-byte s m a k Nowhere l n w q = refl
+-- an accepted access through a window reaches memory
+pub window-fits : (x : World) (a : Access) (i : ℕ) → Good x → statusAt x a ≡ 0 → placeOf (x .state) a ≡ Window i → a .offset + 4 ≤ length (x .memory)
+unfolding portOf portAt reachesMemory
+window-fits x a i g d e =
+    let z = subst (λ (p : Place). portAt (x .state) a p .present ≡ true) e (found (x .state) _ _ a d) in
+    omega (arith, leb-true (a .offset + 4) (x .state .fitted) z, g .memory)
+
+window-quiet : (x : World) (a : Access) (k : ℕ) (i : Option ℕ) → Good x → statusAt x a ≡ 0 → reachAt (placeOf (x .state) a) .window ≡ i
+    → windowReach (x .state) a i k ≡ false → getD (putAll (x .memory) (putsFrom (x .state) a i)) k 0 ≡ getD (x .memory) k 0
+unfolding windowReach pokePatch reached
+window-quiet x a k none g d e q = refl
+window-quiet x a k (some i) g d e q =
+    byte-after (getD (x .state .values) i 0) (a .offset) (a .enables) (a .word) (x .memory)
+    (window-fits x a i g d (names (placeOf (x .state) a) .window i e)) k
+    ∙ ap (λ (t : Bool). pick t (laneByte (laneOf (getD (x .state .values) i 0) (k - a .offset)) (a .word)) (getD (x .memory) k 0)) q
 
 -- a memory byte that an access does not reach is as before
-pub same-byte : (x : World) (a : Access) (k : ℕ) → Good x → pokesFrom (x .state) a k (placeOf a) ≡ false
-    → getD (after x a .memory) k 0 ≡ getD (x .memory) k 0
-unfolding memoryWith
+pub same-byte : (x : World) (a : Access) (k : ℕ) → Good x → pokes (x .state) a k ≡ false → getD (after x a .memory) k 0 ≡ getD (x .memory) k 0
+unfolding memoryWith pokes
 same-byte x a k g q =
     ap (λ (m : List ℕ). getD m k 0) (after-memory x a)
-    ∙ effect-by (λ (f : Effect). getD (memoryWith f (x .memory)) k 0 ≡ getD (x .memory) k 0) x a
-    (λ t d. write-byte (x .state) (x .memory) a k (placeOf a) (g .memory) (found (x .state) _ _ a d) t q)
-    (λ t d. ap (λ (m : List ℕ). getD m k 0) (read-memory a (placeOf a) (x .memory))) refl
+    ∙ ap (λ (l : List Put). getD (putAll (x .memory) l) k 0) (does x a .puts)
+    ∙ pick-when (λ (l : List Put). getD (putAll (x .memory) l) k 0 ≡ getD (x .memory) k 0) (writes x a) _ []
+    (λ t. window-quiet x a k (reachAt (placeOf (x .state) a) .window) g (done x a (and-first (accepted x a) (isWrite a) t)) refl
+    (simp (and-second (accepted x a) (isWrite a) t) at q))
+    (λ t. refl)

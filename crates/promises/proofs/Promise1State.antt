@@ -70,6 +70,6 @@ module _ (v k w r t : ℕ) (hk : k < 2 ^ 32) (hw : w < 2 ^ 32) where
         zero = rw (clear-not b k hb hk) (contra-back (bit b v) (bit b k) (f b hb .zero));
       }))
 
-  -- of a word that a write may change: of region 0, of the header (what is known being the table's), of an indirect register, of the palette address
+  -- of a register of the bank, and of the palette address
   pub fault-means : (faults v k w r t ≡ 0) ↔ ((b : ℕ) → b < 32 → SoundBit v k w r t b)
   fault-means = (sound-of, of-sound)

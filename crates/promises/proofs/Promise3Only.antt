@@ -7,14 +7,12 @@ use lib.ListN.{getD}
 use Rattle.bits.specs.Bit.{bit}
 use Rattle.chip.specs.declared.Access.{Access}
 use Rattle.chip.specs.Palette.{entryCount, entryOf}
-use Rattle.chip.specs.Place.{placeOf}
 use Rattle.chip.specs.Refusal.{isWrite}
 use Rattle.chip.specs.Trace.{World, step, after}
 use Rattle.promises.specs.Good.{Good}
-use Rattle.promises.specs.History.{Spot}
-use Rattle.promises.specs.Frame.{reaches, SameBit, turnsFrom, storesFrom, pokesFrom}
+use Rattle.promises.specs.History.{Spot, Real}
+use Rattle.promises.specs.Frame.{reaches, SameBit, turns, completes, pokes}
 use Rattle.promises.specs.View.{LeavesRest}
-use Rattle.promises.proofs.Contents.{Real}
 use Rattle.promises.proofs.Worlds.{Sizes, sizes-kept}
 use Rattle.promises.proofs.Only.{same-bit, same-entry, same-dac, same-byte}
 use Rattle.promises.proofs.Answers.{unknown-zero, lane-off, write-answers, read-leaves}
@@ -25,16 +23,16 @@ module _ (x : World) (a : Access) (g : Good x) where
   bits-stay q = same-bit x a q g
 
   -- a palette entry that it does not complete is as before
-  pub entries-stay : (e : ℕ) → e < entryCount → storesFrom (x .state) a e (placeOf a) ≡ false
+  pub entries-stay : (e : ℕ) → e < entryCount → completes (x .state) a e ≡ false
       → entryOf (after x a .state .palette) e ≡ entryOf (x .state .palette) e
   entries-stay e = same-entry x a e g
 
   -- a memory byte that it does not reach is as before
-  pub bytes-stay : (k : ℕ) → pokesFrom (x .state) a k (placeOf a) ≡ false → getD (after x a .memory) k 0 ≡ getD (x .memory) k 0
+  pub bytes-stay : (k : ℕ) → pokes (x .state) a k ≡ false → getD (after x a .memory) k 0 ≡ getD (x .memory) k 0
   bytes-stay k = same-byte x a k g
 
   -- the address, the component and the stage are as before, unless it is an access to them
-  pub pointer-stays : turnsFrom a (placeOf a) ≡ false → after x a .state .dac ≡ x .state .dac
+  pub pointer-stays : turns (x .state) a ≡ false → after x a .state .dac ≡ x .state .dac
   pointer-stays = same-dac x a
 
 -- no access changes the panel or the memory's length

@@ -14,25 +14,27 @@ use Rattle.bits.specs.Bit.{bit}
 use Rattle.chip.specs.declared.State.{State}
 use Rattle.chip.specs.declared.Access.{Access}
 use Rattle.chip.specs.declared.Colour.{Colour}
-use Rattle.chip.specs.declared.Place.the-variants.{Register, Address, PaletteData, IndexedData, Window, Config, Blank}
+use Rattle.chip.specs.declared.Place.the-variants.{Register, Address, PaletteData, Window, Blank}
+use Rattle.chip.specs.Bank.{indirectAt}
 use Rattle.chip.specs.Palette.{entryCount, emptyPalette, entryOf}
 use Rattle.chip.specs.Dac.{resetDac}
 use Rattle.chip.specs.Aperture.{laneOf}
 use Rattle.chip.specs.State.{resetState}
 use Rattle.chip.specs.Place.{placeOf}
-use Rattle.chip.specs.Effect.{wide, wroteComponent}
+use Rattle.chip.specs.Port.{wide}
 use Rattle.chip.specs.Trace.{World, opened, step, after, run}
 use Rattle.promises.specs.Good.{Good, Openable}
 use Rattle.promises.specs.Along.{runs, lastPut, PutLast, PutNever}
-use Rattle.promises.specs.History.{effectAt, seenBit, shows, partBit, Spot, region, header, indirect, holds, stated}
-use Rattle.promises.specs.Origin.{bitPut, bytePut, entryPut, aimPut, latest, BitStored, BitStated, ByteStored, ByteLent, AddressSet, AddressAt, Three, WritesComponent}
+use Rattle.promises.specs.History.{seenBit, shows, partBit, Spot, spot, Real, holds, stated, aimPut}
+use Rattle.promises.specs.Origin.{bitPut, bytePut, entryPut, latest, BitStored, BitStated, ByteStored, ByteLent, AddressSet, AddressAt, Three}
 use Rattle.promises.proofs.Along.{read-along, whence}
 use Rattle.promises.proofs.Worlds.{good-kept, good-along, opened-good, opens, memory-length}
-use Rattle.promises.proofs.Contents.{Real, spot-step, byte-step, entry-step}
-use Rattle.promises.proofs.Shown.{Accepted, shows-register, shows-header, shows-blank, shows-indexed, shows-address, shows-palette, shows-memory}
+use Rattle.promises.proofs.Sites.{row-there, indexed-there}
+use Rattle.promises.proofs.Contents.{spot-step, byte-step, entry-step}
+use Rattle.promises.proofs.Shown.{Accepted, found, shows-register, shows-blank, shows-address, shows-palette, shows-memory}
 use Rattle.promises.proofs.Address.{run-runs, SetBy, set-or-not, set-at, never-set}
 use Rattle.promises.proofs.ThreeWrites.{three}
-use Rattle.promises.proofs.Origins.{register-row, config-row, opened-holds, puts-stores, puts-pokes, writes-component}
+use Rattle.promises.proofs.Origins.{opened-holds, puts-stores, puts-pokes}
 
 -- an empty palette has no entry
 zeros-at : (n k : ℕ) → _≡_ {A = ℕ} (getD (replicate n 0) k 0) 0
@@ -66,14 +68,14 @@ module _ (w h : ℕ) (m p : List ℕ) (o : Openable w h m p) (l : List Access) w
   unfolding resetState resetDac
   opened-stage = ap (λ (s : State). s .dac .staged) (opens w h m p o .state)
 
-  -- ---- registers: region 0's, the header's, indirect ones
+  -- ---- registers
 
   -- a bit holds what the list stored there last, and else what the reset tables state
   pub bit-held : (q : Spot) → Real q → holds (run (opened w h m p) l .state) q ≡ latest (bitPut q) (opened w h m p) l (stated q)
   bit-held q r =
       ap (λ (x : World). holds (x .state) q) (sym (run-runs (opened w h m p) l))
       ∙ read-along after (bitPut q) (λ (x : World). holds (x .state) q) Good good-kept (spot-step q r) (opened w h m p) l (opened-good w h m p o)
-      ∙ ap (Option·getD (lastPut after (bitPut q) (opened w h m p) l)) (opened-holds w h m p o q r)
+      ∙ ap (Option·getD (lastPut after (bitPut q) (opened w h m p) l)) (opened-holds w h m p o q)
 
   -- where a bit is known, an accepted write of the list stored it last, or none did and the tables state it
   pub bit-origin : (q : Spot) → Real q → (v : Bool) → holds (run (opened w h m p) l .state) q ≡ some v
@@ -105,7 +107,7 @@ module _ (w h : ℕ) (m p : List ℕ) (o : Openable w h m p) (l : List Access) w
             value = some-is v _ (z .value);
             silent = subst (λ (y : World). lastPut after (bitPut q) (after y (f .by)) (f .rest) ≡ none) b (f .silent);
           })
-      go (inr n) = inr (record { silent = n .silent; value = sym (opened-holds w h m p o q r) ∙ sym (n .same) ∙ final })
+      go (inr n) = inr (record { silent = n .silent; value = sym (opened-holds w h m p o q) ∙ sym (n .same) ∙ final })
 
   -- ---- memory
 
@@ -178,48 +180,40 @@ module _ (w h : ℕ) (m p : List ℕ) (o : Openable w h m p) (l : List Access) w
   -- ---- what a read shows, from the list alone
 
   module _ (a : Access) (b : ℕ) (q : Accepted (run (opened w h m p) l) a) (hb : b < 32) where
-    pub register-read : (r : ℕ) → placeOf a ≡ Register r
+    -- a register: region 0's, the header's, or the indirect one that indexed data leads to
+    pub register-read : (r : ℕ) → placeOf (run (opened w h m p) l .state) a ≡ Register r
         → shows (step (run (opened w h m p) l) a .answer) b
-        ≡ pick (bit (b / 8) (a .enables)) (latest (bitPut (region r b)) (opened w h m p) l (stated (region r b))) none
-    unfolding Real
+        ≡ pick (bit (b / 8) (a .enables)) (latest (bitPut (spot r b)) (opened w h m p) l (stated (spot r b))) none
     register-read r e =
         shows-register (run (opened w h m p) l) a b q hb r e
-        ∙ ap (λ (z : Option Bool). pick (bit (b / 8) (a .enables)) z none) (bit-held (region r b) (register-row a r e, hb))
+        ∙ ap (λ (z : Option Bool). pick (bit (b / 8) (a .enables)) z none)
+        (bit-held (spot r b) (record { row = row-there (run (opened w h m p) l .state) a r e; bit = hb }))
 
-    pub header-read : (r : ℕ) → placeOf a ≡ Config r
+    -- indexed data: the register that the map has at the address
+    pub indexed-read : a .target ≡ 0 → a .offset ≡ 0x4050
         → shows (step (run (opened w h m p) l) a .answer) b
-        ≡ pick (bit (b / 8) (a .enables)) (latest (bitPut (header r b)) (opened w h m p) l (stated (header r b))) none
-    unfolding Real
-    header-read r e =
-        shows-header (run (opened w h m p) l) a b q hb r e
-        ∙ ap (λ (z : Option Bool). pick (bit (b / 8) (a .enables)) z none) (bit-held (header r b) (config-row a r e, hb))
+        ≡ pick (bit (b / 8) (a .enables))
+        (latest (bitPut (spot (indirectAt (run (opened w h m p) l .state .dac .address)) b)) (opened w h m p) l
+        (stated (spot (indirectAt (run (opened w h m p) l .state .dac .address)) b)))
+        none
+    indexed-read t f =
+        register-read (indirectAt (run (opened w h m p) l .state .dac .address))
+        (indexed-there (run (opened w h m p) l .state) a t f (found (run (opened w h m p) l .state) _ _ a (q .done)))
 
     -- an offset of the header without a register: zero, known, by PCI
-    pub blank-read : placeOf a ≡ Blank
+    pub blank-read : placeOf (run (opened w h m p) l .state) a ≡ Blank
         → shows (step (run (opened w h m p) l) a .answer) b ≡ pick (bit (b / 8) (a .enables)) (some false) none
     blank-read e = shows-blank (run (opened w h m p) l) a b q hb e
 
-    -- indexed data: the register that the address names
-    pub indexed-read : placeOf a ≡ IndexedData
-        → shows (step (run (opened w h m p) l) a .answer) b
-        ≡ pick (bit (b / 8) (a .enables))
-        (latest (bitPut (indirect (run (opened w h m p) l .state .dac .address) b)) (opened w h m p) l (stated (indirect (run (opened w h m p) l .state .dac .address) b)))
-        none
-    unfolding Real
-    indexed-read e =
-        shows-indexed (run (opened w h m p) l) a b q hb e
-        ∙ ap (λ (z : Option Bool). pick (bit (b / 8) (a .enables)) z none)
-        (bit-held (indirect (run (opened w h m p) l .state .dac .address) b) (good .formed .address, hb))
-
     -- the address: the bits of it that are known
-    pub address-read : placeOf a ≡ Address
+    pub address-read : placeOf (run (opened w h m p) l .state) a ≡ Address
         → shows (step (run (opened w h m p) l) a .answer) b
         ≡ pick (bit (b / 8) (a .enables))
         (seenBit (bit b (run (opened w h m p) l .state .dac .known)) (bit b (run (opened w h m p) l .state .dac .address))) none
     address-read e = shows-address (run (opened w h m p) l) a b q hb e
 
     -- palette data: a component of the entry that the address names, as the present width shows it
-    pub palette-read : placeOf a ≡ PaletteData
+    pub palette-read : placeOf (run (opened w h m p) l .state) a ≡ PaletteData
         → shows (step (run (opened w h m p) l) a .answer) b
         ≡ pick (bit (b / 8) (a .enables))
         (partBit (wide (run (opened w h m p) l .state)) (run (opened w h m p) l .state .dac .component) b
@@ -232,13 +226,9 @@ module _ (w h : ℕ) (m p : List ℕ) (o : Openable w h m p) (l : List Access) w
         (entry-held (run (opened w h m p) l .state .dac .address) (good .formed .address))
 
     -- memory: the bit of the byte that exchanges with its lane
-    pub memory-read : (i : ℕ) → placeOf a ≡ Window i
+    pub memory-read : (i : ℕ) → placeOf (run (opened w h m p) l .state) a ≡ Window i
         → shows (step (run (opened w h m p) l) a .answer) b
         ≡ pick (bit (b / 8) (a .enables))
         (some (bit (b % 8) (getD (run (opened w h m p) l .memory) (a .offset + laneOf (getD (run (opened w h m p) l .state .values) i 0) (b / 8)) 0)))
         none
     memory-read i e = shows-memory (run (opened w h m p) l) a b q hb good i e
-
--- a write of a component, as the three writes of an entry name it, is an accepted write of palette data with lane 0
-pub component-origin : (x : World) (a : Access) (v : ℕ) → effectAt x a ≡ wroteComponent v → WritesComponent x a v
-component-origin = writes-component

@@ -18,5 +18,5 @@ pub word-depends : (s n : State) (m : List ℕ) (x y : ℕ) → SameView s n →
 word-depends = same-word
 
 -- two worlds that share memory and the aperture's control register give an access through it the same status, word and known mask, and leave the same memory
-pub aperture-depends : (x y : World) (a : Access) (i : ℕ) → Good x → Good y → placeOf a ≡ Window i → SameWindow x y i → SameAnswer x y a
+pub aperture-depends : (x y : World) (a : Access) (i : ℕ) → Good x → Good y → placeOf (x .state) a ≡ Window i → SameWindow x y i → SameAnswer x y a
 aperture-depends = same-window

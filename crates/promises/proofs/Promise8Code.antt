@@ -17,9 +17,8 @@ use Rattle.chip.specs.Step.{answered}
 use Rattle.chip.specs.Trace.{World, opened, run}
 use Rattle.chip.proofs.Lines.{First}
 use Rattle.promises.specs.Good.{Openable}
-use Rattle.promises.specs.History.{Spot, holds}
+use Rattle.promises.specs.History.{Spot, Real, holds}
 use Rattle.promises.specs.Origin.{BitStored, BitStated}
-use Rattle.promises.proofs.Contents.{Real}
 use Rattle.promises.proofs.Calls.{Called, OpenCalled, Calls, call-answers, call-leaves, open-answers, open-leaves, answers, calls-leave, calls-answer}
 use Rattle.promises.proofs.Promise1Refusals.{access-refused, refused-alters-nothing, opening-refused}
 use Rattle.promises.proofs.Promise3Only.{zero-where-unknown}

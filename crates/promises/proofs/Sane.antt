@@ -6,7 +6,7 @@ use mathlib.Core.Path.{_≡_}
 use Rattle.bits.proofs.Bools.{pass}
 use Rattle.chip.specs.declared.State.{State}
 use Rattle.chip.specs.Palette.{paletteOk}
-use Rattle.chip.specs.Sound.{panelOk, memoryOk, componentOk, addressOk, onceOk, regionSound, headerSound, indirectSound, isState}
+use Rattle.chip.specs.Sound.{panelOk, memoryOk, componentOk, addressOk, onceOk, bankSound, isState}
 
 -- ---- refusal 1, test by test
 
@@ -16,15 +16,13 @@ pub record Sane (s : State) : Type 0 where
   pub component : componentOk (s .dac) ≡ true
   pub address : addressOk (s .dac) ≡ true
   pub once : onceOk (s .once) ≡ true
-  pub region : regionSound (s .values) (s .knowns) ≡ true
-  pub header : headerSound (s .once) (s .header) ≡ true
-  pub indirect : indirectSound (s .indirect) ≡ true
+  pub bank : bankSound (s .once) (s .values) (s .knowns) ≡ true
   pub palette : paletteOk (s .palette) ≡ true
 
 tests : State → List Bool
 tests s =
     panelOk (s .width) (s .height) ∷ memoryOk (s .fitted) ∷ componentOk (s .dac) ∷ addressOk (s .dac) ∷ onceOk (s .once)
-    ∷ regionSound (s .values) (s .knowns) ∷ headerSound (s .once) (s .header) ∷ indirectSound (s .indirect) ∷ paletteOk (s .palette) ∷ []
+    ∷ bankSound (s .once) (s .values) (s .knowns) ∷ paletteOk (s .palette) ∷ []
 
 pub sane : (s : State) → isState s ≡ true → Sane s
 unfolding isState tests
@@ -35,13 +33,11 @@ sane s e =
       component = pass (tests s) e 2;
       address = pass (tests s) e 3;
       once = pass (tests s) e 4;
-      region = pass (tests s) e 5;
-      header = pass (tests s) e 6;
-      indirect = pass (tests s) e 7;
-      palette = pass (tests s) e 8;
+      bank = pass (tests s) e 5;
+      palette = pass (tests s) e 6;
     }
 
 pub is-state : (s : State) → Sane s → isState s ≡ true
 unfolding isState
 is-state s f =
-    simp (f .panel, f .memory, f .component, f .address, f .once, f .region, f .header, f .indirect, f .palette)
+    simp (f .panel, f .memory, f .component, f .address, f .once, f .bank, f .palette)

@@ -20,19 +20,19 @@ use Rattle.chip.specs.declared.Access.{Access}
 use Rattle.chip.specs.declared.Colour.{Colour}
 use Rattle.chip.specs.declared.Seen.{Seen}
 use Rattle.chip.specs.declared.Place.{Place}
-use Rattle.chip.specs.declared.Place.the-variants.{Register, Address, PaletteData, IndexedData, Window, Config, Blank}
+use Rattle.chip.specs.declared.Place.the-variants.{Register, Address, PaletteData, Window, Blank}
 use Rattle.chip.specs.Palette.{entryOf}
-use Rattle.chip.specs.Aperture.{laneOf, wordFrom}
+use Rattle.chip.specs.Aperture.{served, laneOf, wordFrom}
 use Rattle.chip.specs.Units.{atByte}
 use Rattle.chip.specs.Place.{placeOf}
-use Rattle.chip.specs.Refusal.{isWrite, servedAt, laterLines, accessLines, statusOf}
-use Rattle.chip.specs.Effect.{seenPart, seenAt, knownIn, wordIn, wide}
+use Rattle.chip.specs.Port.{seenPart, knownIn, wordIn, wide, portAt}
+use Rattle.chip.specs.Refusal.{isWrite, portOf, laterLines, accessLines, statusOf}
 use Rattle.chip.specs.Step.{settled, seenBy, doneBy, givenBy, stepOf}
 use Rattle.chip.specs.Trace.{World, step}
 use Rattle.chip.proofs.Lines.{none-holds}
 use Rattle.chip.proofs.Lent.{lane-read, served-swap}
 use Rattle.promises.specs.Good.{Good, statusAt}
-use Rattle.promises.specs.History.{seenBit, shows, partBit, region, header, indirect, holds}
+use Rattle.promises.specs.History.{seenBit, shows, partBit, spot, holds}
 
 -- ---- an accepted read
 
@@ -51,13 +51,18 @@ enables-lt s ml pl a e =
           (not-false (leb (a .target) 3 && leb (a .enables) 15) (none-holds (accessLines s ml pl a) refl e 2))),
     )
 
-pub served-here : (s : State) (ml pl : ℕ) (a : Access) → statusOf s ml pl a ≡ 0 → servedAt s (placeOf a) ≡ true
+served-here : (s : State) (ml pl : ℕ) (a : Access) → statusOf s ml pl a ≡ 0 → portOf s a .served ≡ true
 unfolding statusOf accessLines laterLines
-served-here s ml pl a e = not-false (servedAt s (placeOf a)) (none-holds (accessLines s ml pl a) refl e 6)
+served-here s ml pl a e = not-false (portOf s a .served) (none-holds (accessLines s ml pl a) refl e 6)
+
+-- an accepted access finds something at its place
+pub found : (s : State) (ml pl : ℕ) (a : Access) → statusOf s ml pl a ≡ 0 → portOf s a .present ≡ true
+unfolding statusOf accessLines laterLines
+found s ml pl a e = not-false (portOf s a .present) (none-holds (accessLines s ml pl a) refl e 4)
 
 -- what it sees
 abbrev pub sees : World → Access → Seen
-sees x a = seenAt (x .state) (x .memory) (a .offset) (placeOf a)
+sees x a = portOf (x .state) a .seen (x .memory)
 
 answer-word : (x : World) (a : Access) → Accepted x a → step x a .answer .word ≡ wordIn (sees x a) (a .enables)
 unfolding stepOf givenBy doneBy settled seenBy
@@ -109,48 +114,39 @@ none-part b = simp (bit-of-zero b)
 
 module _ (x : World) (a : Access) (b : ℕ) (q : Accepted x a) (hb : b < 32) where
   -- what a read shows at bit b, given what it sees there
-  at-place : (p : Place) (o : Option Bool) → placeOf a ≡ p
-      → seenBit (bit b (seenAt (x .state) (x .memory) (a .offset) p .known)) (bit b (seenAt (x .state) (x .memory) (a .offset) p .value)) ≡ o
+  at-place : (p : Place) (o : Option Bool) → placeOf (x .state) a ≡ p
+      → seenBit (bit b (portAt (x .state) a p .seen (x .memory) .known)) (bit b (portAt (x .state) a p .seen (x .memory) .value)) ≡ o
       → shows (step x a .answer) b ≡ pick (bit (b / 8) (a .enables)) o none
+  unfolding portOf
   at-place p o e r =
       read-shows x a b q hb
       ∙ ap (λ (y : Option Bool). pick (bit (b / 8) (a .enables)) y none)
       (ap
       (λ (z : Place).
-      seenBit (bit b (seenAt (x .state) (x .memory) (a .offset) z .known)) (bit b (seenAt (x .state) (x .memory) (a .offset) z .value))) e
+      seenBit (bit b (portAt (x .state) a z .seen (x .memory) .known)) (bit b (portAt (x .state) a z .seen (x .memory) .value))) e
       ∙ r)
 
-  pub shows-register : (r : ℕ) → placeOf a ≡ Register r
-      → shows (step x a .answer) b ≡ pick (bit (b / 8) (a .enables)) (holds (x .state) (region r b)) none
-  unfolding seenAt holds
+  pub shows-register : (r : ℕ) → placeOf (x .state) a ≡ Register r
+      → shows (step x a .answer) b ≡ pick (bit (b / 8) (a .enables)) (holds (x .state) (spot r b)) none
+  unfolding portAt holds
   shows-register r e = at-place (Register r) _ e refl
 
-  pub shows-header : (r : ℕ) → placeOf a ≡ Config r
-      → shows (step x a .answer) b ≡ pick (bit (b / 8) (a .enables)) (holds (x .state) (header r b)) none
-  unfolding seenAt holds
-  shows-header r e = at-place (Config r) _ e refl
-
   -- an offset of the header without a register: zero, known
-  pub shows-blank : placeOf a ≡ Blank → shows (step x a .answer) b ≡ pick (bit (b / 8) (a .enables)) (some false) none
-  unfolding seenAt seenBit
+  pub shows-blank : placeOf (x .state) a ≡ Blank → shows (step x a .answer) b ≡ pick (bit (b / 8) (a .enables)) (some false) none
+  unfolding portAt seenBit
   shows-blank e = at-place Blank (some false) e (simp (full-bit b hb, bit-of-zero b))
 
-  pub shows-indexed : placeOf a ≡ IndexedData
-      → shows (step x a .answer) b ≡ pick (bit (b / 8) (a .enables)) (holds (x .state) (indirect (x .state .dac .address) b)) none
-  unfolding seenAt holds
-  shows-indexed e = at-place IndexedData _ e refl
-
-  pub shows-address : placeOf a ≡ Address
+  pub shows-address : placeOf (x .state) a ≡ Address
       → shows (step x a .answer) b
       ≡ pick (bit (b / 8) (a .enables)) (seenBit (bit b (x .state .dac .known)) (bit b (x .state .dac .address))) none
-  unfolding seenAt
+  unfolding portAt
   shows-address e = at-place Address _ e refl
 
-  pub shows-palette : placeOf a ≡ PaletteData
+  pub shows-palette : placeOf (x .state) a ≡ PaletteData
       → shows (step x a .answer) b
       ≡ pick (bit (b / 8) (a .enables))
       (partBit (wide (x .state)) (x .state .dac .component) b (entryOf (x .state .palette) (x .state .dac .address))) none
-  unfolding seenAt partBit
+  unfolding portAt partBit
   shows-palette e = at-place PaletteData _ e (part (entryOf (x .state .palette) (x .state .dac .address)))
     where
       part : (o : Option Colour)
@@ -159,11 +155,15 @@ module _ (x : World) (a : Access) (b : ℕ) (q : Accepted x a) (hb : b < 32) whe
       part none = none-part b
       part (some c) = refl
 
+  window-served : (i : ℕ) → placeOf (x .state) a ≡ Window i → served (getD (x .state .values) i 0) ≡ true
+  unfolding portAt portOf
+  window-served i e = subst (λ (p : Place). portAt (x .state) a p .served ≡ true) e (served-here (x .state) _ _ a (q .done))
+
   -- memory: the bit of the byte that exchanges with the bit's lane
-  pub shows-memory : Good x → (i : ℕ) → placeOf a ≡ Window i
+  pub shows-memory : Good x → (i : ℕ) → placeOf (x .state) a ≡ Window i
       → shows (step x a .answer) b
       ≡ pick (bit (b / 8) (a .enables)) (some (bit (b % 8) (getD (x .memory) (a .offset + laneOf (getD (x .state .values) i 0) (b / 8)) 0))) none
-  unfolding seenAt seenBit servedAt
+  unfolding portAt seenBit
   shows-memory g i e =
       at-place (Window i) _ e
       (simp (full-bit b hb)
@@ -171,5 +171,4 @@ module _ (x : World) (a : Access) (b : ℕ) (q : Accepted x a) (hb : b < 32) whe
       (bit-lane b (wordFrom (getD (x .state .values) i 0) (x .memory) (atByte (a .offset)))
       ∙ ap (bit (b % 8))
       (lane-read (getD (x .state .values) i 0) (x .memory) (a .offset) (b / 8)
-      (served-swap (getD (x .state .values) i 0) (subst (λ (p : Place). servedAt (x .state) p ≡ true) e (served-here (x .state) _ _ a (q .done))))
-      (g .bytes) (omega arith)))))
+      (served-swap (getD (x .state .values) i 0) (window-served i e)) (g .bytes) (omega arith)))))

@@ -1,79 +1,66 @@
 -- A world is good after every opening that is not refused, and stays good along any list of accesses.
--- What an access leaves is what its effect makes, refused or not; the effects are in Keeps. Assumes nothing.
-use Prim.Native.Nat.{ℕ, suc, _*_}
+-- What an access leaves is what its patch makes, refused or not; that a state stays one is in Keeps. Assumes nothing.
+use Prim.Native.Nat.{ℕ, _*_}
 use mathlib.Core.Bool.{Bool, true}
-use mathlib.Core.List.{List, [], _∷_, map}
+use mathlib.Core.List.{List, [], _∷_}
+use mathlib.Core.Option.{Option, none, some}
 use mathlib.Core.Path.{_≡_, refl, sym, ap, ap₂, _∙_, subst}
 use native.Mathlib.Omega.{arith}
 use borrow.Author.Tests.{eqb-true, eq-eqb, not-false}
 use lib.Dec.{eqb}
-use lib.ListN.{length, replicate, length-replicate}
-use Rattle.bits.specs.Choose.{pick}
-use Rattle.bits.proofs.Cases.{byTest, pick-by, pick-when}
+use lib.ListN.{getD, length, length-map, replicate, length-replicate}
+use Rattle.bits.specs.Choose.{pick, everyIn}
+use Rattle.bits.proofs.Cases.{byTest, pick-by}
 use Rattle.chip.specs.declared.State.{State}
 use Rattle.chip.specs.declared.Access.{Access}
 use Rattle.chip.specs.Row.{Row}
-use Rattle.chip.specs.Region.{regionRows}
-use Rattle.chip.specs.Header.{headerRows}
-use Rattle.chip.specs.Indirect.{Entry, indirectMap}
+use Rattle.chip.specs.Bank.{bankRows, bankResets, bankKnowns}
 use Rattle.chip.specs.Palette.{entryCount, emptyPalette}
 use Rattle.chip.specs.Dac.{resetDac}
-use Rattle.chip.specs.State.{regionResets, regionKnowns, headerResets, indirectResets, resetState, withRegister, withHeader, withIndirect, withDac}
-use Rattle.chip.specs.Sound.{panelOk, memoryOk, isState}
-use Rattle.chip.specs.Refusal.{isWrite, openingLines, openingStatus}
-use Rattle.chip.specs.Effect.{Effect, idle, wroteRegister, wroteHeader, wroteIndirect, setAddress, wroteComponent, readComponent, wroteMemory, readEffect, writeEffect, stateWith, memoryWith}
+use Rattle.chip.specs.Units.{atByte}
+use Rattle.chip.specs.Aperture.{Put}
+use Rattle.chip.specs.Patch.{Patch, nothingStored, applied, memoryWith}
+use Rattle.chip.specs.State.{resetState}
 use Rattle.chip.specs.Place.{placeOf}
-use Rattle.chip.specs.Step.{Outcome, Opening, refused, settled, effectOf, stateAfter, memoryAfter, doneBy, givenBy, stepOf, blankWord, openOf}
+use Rattle.chip.specs.Port.{pokePatch}
+use Rattle.chip.specs.Sound.{panelOk, memoryOk, isState}
+use Rattle.chip.specs.Refusal.{openingLines, openingStatus}
+use Rattle.chip.specs.Step.{Outcome, Opening, refused, settled, patchOf, stateAfter, memoryAfter, doneBy, givenBy, stepOf, blankWord, openOf}
 use Rattle.chip.specs.Trace.{World, opened, after, run}
 use Rattle.chip.proofs.Computed.{computed}
 use Rattle.chip.proofs.Lines.{none-holds}
-use Rattle.chip.proofs.Tables.{region-length, header-length, map-length}
+use Rattle.chip.proofs.Tables.{bank-length}
 use Rattle.chip.proofs.Poked.{putAll-length}
+use Rattle.chip.proofs.Lent.{small, puts-small, stores-small}
 use Rattle.chip.proofs.Redraw.{redrawn-length}
 use Rattle.promises.specs.Good.{Formed, Good, AreBytes, statusAt, Openable}
-use Rattle.promises.specs.History.{effectAt}
-use Rattle.promises.proofs.Sane.{Sane, sane, is-state}
-use Rattle.chip.proofs.Lent.{stores-small}
-use Rattle.promises.proofs.Proper.{Proper, effect-proper}
-use Rattle.promises.proofs.Keeps.{found, Kept, idle-kept, read-kept, write-kept}
+use Rattle.promises.specs.Reach.{reachAt}
+use Rattle.promises.specs.History.{accepted, patchAt}
+use Rattle.promises.proofs.Sane.{Sane, is-state}
+use Rattle.promises.proofs.Does.{putsFrom, writes, does}
+use Rattle.promises.proofs.Keeps.{Kept, patch-kept}
 
 -- ---- what an access leaves
 
 given-state : (n : ℕ) (s : State) (m p : List ℕ) (a : Access)
-    → givenBy n s m p a .answer .state ≡ stateWith (pick (eqb n 0) (effectOf s a) idle) s
-unfolding givenBy doneBy settled refused stateAfter stateWith
+    → givenBy n s m p a .answer .state ≡ applied (pick (eqb n 0) (patchOf s a) nothingStored) s
+unfolding givenBy doneBy settled refused stateAfter applied
 given-state n s m p a = byTest (eqb n 0) (λ q. simp q) (λ q. simp q)
 
 given-memory : (n : ℕ) (s : State) (m p : List ℕ) (a : Access)
-    → givenBy n s m p a .memory ≡ memoryWith (pick (eqb n 0) (effectOf s a) idle) m
+    → givenBy n s m p a .memory ≡ memoryWith (pick (eqb n 0) (patchOf s a) nothingStored) m
 unfolding givenBy doneBy settled refused memoryAfter memoryWith
 given-memory n s m p a = byTest (eqb n 0) (λ q. simp q) (λ q. simp q)
 
-pub after-state : (x : World) (a : Access) → after x a .state ≡ stateWith (effectAt x a) (x .state)
-unfolding stepOf effectAt
+pub after-state : (x : World) (a : Access) → after x a .state ≡ applied (patchAt x a) (x .state)
+unfolding stepOf patchAt accepted
 after-state x a = given-state (statusAt x a) (x .state) (x .memory) (x .picture) a
 
-pub after-memory : (x : World) (a : Access) → after x a .memory ≡ memoryWith (effectAt x a) (x .memory)
-unfolding stepOf effectAt
+pub after-memory : (x : World) (a : Access) → after x a .memory ≡ memoryWith (patchAt x a) (x .memory)
+unfolding stepOf patchAt accepted
 after-memory x a = given-memory (statusAt x a) (x .state) (x .memory) (x .picture) a
 
 -- ---- it is good
-
-effect-kept : (s : State) (a : Access) → Sane s → Formed s → Rattle.chip.specs.Refusal.presentAt s (a .offset) (placeOf a) ≡ true
-    → Kept (stateWith (effectOf s a) s)
-unfolding effectOf
-effect-kept s a z f n =
-    pick-by (λ (e : Effect). Kept (stateWith e s)) (isWrite a) (writeEffect s a (placeOf a)) (readEffect a (placeOf a))
-    (write-kept s z f a (placeOf a) n) (read-kept s z f a (placeOf a) n)
-
-after-kept : (x : World) (a : Access) → Good x → Kept (after x a .state)
-unfolding effectAt
-after-kept x a g =
-    let z = sane (x .state) (g .state) in
-    subst Kept (sym (after-state x a))
-    (pick-when (λ (e : Effect). Kept (stateWith e (x .state))) (eqb (statusAt x a) 0) (effectOf (x .state) a) idle
-    (λ q. effect-kept (x .state) a z (g .formed) (found (x .state) _ _ a (eqb-true _ 0 q)))
-    (λ q. idle-kept (x .state) z (g .formed)))
 
 -- the panel and the memory's length stay
 pub record Sizes (s n : State) : Type 0 where
@@ -81,33 +68,16 @@ pub record Sizes (s n : State) : Type 0 where
   pub height : n .height ≡ s .height
   pub fitted : n .fitted ≡ s .fitted
 
-pub sizes-with : (e : Effect) (s : State) → Sizes s (stateWith e s)
-unfolding stateWith withRegister withHeader withIndirect withDac
-sizes-with idle s = record { width = refl; height = refl; fitted = refl }
-sizes-with (wroteRegister i b w) s = record { width = refl; height = refl; fitted = refl }
-sizes-with (wroteHeader i b w o) s = record { width = refl; height = refl; fitted = refl }
-sizes-with (wroteIndirect i b w) s = record { width = refl; height = refl; fitted = refl }
-sizes-with (setAddress v) s = record { width = refl; height = refl; fitted = refl }
-sizes-with (wroteComponent v) s = record { width = refl; height = refl; fitted = refl }
-sizes-with readComponent s = record { width = refl; height = refl; fitted = refl }
-sizes-with (wroteMemory l) s = record { width = refl; height = refl; fitted = refl }
+sizes-with : (p : Patch) (s : State) → Sizes s (applied p s)
+unfolding applied
+sizes-with p s = record { width = refl; height = refl; fitted = refl }
 
 pub sizes-kept : (x : World) (a : Access) → Sizes (x .state) (after x a .state)
-sizes-kept x a = subst (Sizes (x .state)) (sym (after-state x a)) (sizes-with (effectAt x a) (x .state))
-
-memory-with : (e : Effect) (m : List ℕ) → length (memoryWith e m) ≡ length m
-unfolding memoryWith
-memory-with idle m = refl
-memory-with (wroteRegister i b w) m = refl
-memory-with (wroteHeader i b w o) m = refl
-memory-with (wroteIndirect i b w) m = refl
-memory-with (setAddress v) m = refl
-memory-with (wroteComponent v) m = refl
-memory-with readComponent m = refl
-memory-with (wroteMemory l) m = putAll-length m l
+sizes-kept x a = subst (Sizes (x .state)) (sym (after-state x a)) (sizes-with (patchAt x a) (x .state))
 
 pub memory-length : (x : World) (a : Access) → length (after x a .memory) ≡ length (x .memory)
-memory-length x a = ap length (after-memory x a) ∙ memory-with (effectAt x a) (x .memory)
+unfolding memoryWith
+memory-length x a = ap length (after-memory x a) ∙ putAll-length (x .memory) (patchAt x a .puts)
 
 pub picture-length : (x : World) (a : Access) → length (after x a .picture) ≡ length (x .picture)
 unfolding stepOf givenBy doneBy settled refused
@@ -115,28 +85,31 @@ picture-length x a =
     pick-by (λ (o : Outcome). length (o .picture) ≡ length (x .picture)) (eqb (statusAt x a) 0) _ _
     (redrawn-length _ _ (x .picture)) refl
 
-bytes-with : (e : Effect) (m : List ℕ) → Proper e → AreBytes m → AreBytes (memoryWith e m)
-unfolding memoryWith Proper
-bytes-with idle m q h = h
-bytes-with (wroteRegister i b w) m q h = h
-bytes-with (wroteHeader i b w o) m q h = h
-bytes-with (wroteIndirect i b w) m q h = h
-bytes-with (setAddress v) m q h = h
-bytes-with (wroteComponent v) m q h = h
-bytes-with readComponent m q h = h
-bytes-with (wroteMemory l) m q h = stores-small m l q h
+-- what is stored in memory are bytes
+puts-bytes : (x : World) (a : Access) → everyIn small (patchAt x a .puts) ≡ true
+unfolding pokePatch
+puts-bytes x a =
+    ap (everyIn small) (does x a .puts) ∙ pick-by (λ (l : List Put). everyIn small l ≡ true) (writes x a) _ [] (from (reachAt (placeOf (x .state) a) .window)) refl
+  where
+    from : (i : Option ℕ) → everyIn small (putsFrom (x .state) a i) ≡ true
+    from none = refl
+    from (some i) = puts-small (getD (x .state .values) i 0) (atByte (a .offset)) (a .enables) (a .word)
+
+bytes-kept : (x : World) (a : Access) → AreBytes (x .memory) → AreBytes (after x a .memory)
+unfolding memoryWith
+bytes-kept x a h = subst AreBytes (sym (after-memory x a)) (stores-small (x .memory) (patchAt x a .puts) (puts-bytes x a) h)
 
 -- every access keeps a good world good
 pub good-kept : (x : World) (a : Access) → Good x → Good (after x a)
 good-kept x a g =
-    let k = after-kept x a g in
+    let k : Kept (after x a .state) = subst Kept (sym (after-state x a)) (patch-kept x a g) in
     let z = sizes-kept x a in
     record {
       state = is-state (after x a .state) (k .sane);
       formed = k .formed;
       memory = memory-length x a ∙ g .memory ∙ sym (z .fitted);
       picture = picture-length x a ∙ g .picture ∙ sym (ap₂ (λ (w h : ℕ). w * h) (z .width) (z .height));
-      bytes = subst AreBytes (sym (after-memory x a)) (bytes-with (effectAt x a) (x .memory) (effect-proper x a) (g .bytes));
+      bytes = bytes-kept x a (g .bytes);
     }
 
 pub good-along : (x : World) (l : List Access) → Good x → Good (run x l)
@@ -145,19 +118,12 @@ good-along x (a ∷ l) g = good-along (after x a) l (good-kept x a g)
 
 -- ---- an opening
 
--- a list's column is as long as the list
-column-length : {A : Type 0} (f : A → ℕ) (l : List A) → length (map f l) ≡ length l
-column-length f [] = refl
-column-length f (x ∷ l) = ap suc (column-length f l)
-
 pub reset-formed : (w h f : ℕ) → Formed (resetState w h f)
-unfolding resetState regionResets regionKnowns headerResets indirectResets emptyPalette resetDac
+unfolding resetState bankResets bankKnowns emptyPalette resetDac
 reset-formed w h f =
     record {
-      values = column-length (λ (r : Row). r .reset) regionRows ∙ region-length;
-      knowns = column-length (λ (r : Row). r .known) regionRows ∙ region-length;
-      header = column-length (λ (r : Row). r .reset) headerRows ∙ header-length;
-      indirect = column-length (λ (e : Entry). e .reset) indirectMap ∙ map-length;
+      values = length-map bankRows (λ (r : Row). r .reset) ∙ bank-length;
+      knowns = length-map bankRows (λ (r : Row). r .known) ∙ bank-length;
       red = length-replicate {A = ℕ} entryCount 0;
       green = length-replicate {A = ℕ} entryCount 0;
       blue = length-replicate {A = ℕ} entryCount 0;
@@ -170,7 +136,7 @@ reset-sane : (w h f : ℕ) → panelOk w h ≡ true → memoryOk f ≡ true → 
 unfolding computed
 reset-sane w h f p q =
     record
-    { panel = p; memory = q; component = refl; address = refl; once = refl; region = refl; header = refl; indirect = refl; palette = refl }
+    { panel = p; memory = q; component = refl; address = refl; once = refl; bank = refl; palette = refl }
 
 opening-parts : (w h : ℕ) (m p : List ℕ) → Openable w h m p → (panelOk w h ≡ true) × (memoryOk (length m) ≡ true) × (length p ≡ w * h)
 unfolding openingStatus openingLines

@@ -6,9 +6,7 @@ use mathlib.Core.Path.{_≡_}
 use lib.ListN.{getD, length}
 use Rattle.chip.specs.declared.State.{State}
 use Rattle.chip.specs.declared.Access.{Access}
-use Rattle.chip.specs.Region.{regionCount}
-use Rattle.chip.specs.Header.{headerCount}
-use Rattle.chip.specs.Indirect.{indexCount}
+use Rattle.chip.specs.Bank.{bankCount}
 use Rattle.chip.specs.Palette.{entryCount}
 use Rattle.chip.specs.Sound.{isState}
 use Rattle.chip.specs.Refusal.{statusOf, openingStatus}
@@ -16,10 +14,8 @@ use Rattle.chip.specs.Trace.{World}
 
 -- a state as its type has it: the arrays' lengths, and an address that is a byte
 pub record Formed (s : State) : Type 0 where
-  pub values : length (s .values) ≡ regionCount
-  pub knowns : length (s .knowns) ≡ regionCount
-  pub header : length (s .header) ≡ headerCount
-  pub indirect : length (s .indirect) ≡ indexCount
+  pub values : length (s .values) ≡ bankCount
+  pub knowns : length (s .knowns) ≡ bankCount
   pub red : length (s .palette .red) ≡ entryCount
   pub green : length (s .palette .green) ≡ entryCount
   pub blue : length (s .palette .blue) ≡ entryCount

@@ -1,5 +1,6 @@
 pub mod Good
 pub mod Along
+pub mod Reach
 pub mod History
 pub mod Frame
 pub mod View

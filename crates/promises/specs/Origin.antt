@@ -10,34 +10,31 @@ use Rattle.bits.specs.Word.{laneByte}
 use Rattle.chip.specs.declared.Access.{Access}
 use Rattle.chip.specs.declared.Colour.{Colour}
 use Rattle.chip.specs.declared.Dac.{Dac}
-use Rattle.chip.specs.declared.Place.the-variants.{Window, PaletteData}
-use Rattle.chip.specs.Header.{headerRow}
+use Rattle.chip.specs.declared.Place.the-variants.{Address, PaletteData, Window}
+use Rattle.chip.specs.Bank.{bankRow}
 use Rattle.chip.specs.Palette.{keptAs}
 use Rattle.chip.specs.Aperture.{laneOf}
 use Rattle.chip.specs.Place.{placeOf}
+use Rattle.chip.specs.Port.{wide}
 use Rattle.chip.specs.Refusal.{isWrite}
-use Rattle.chip.specs.Effect.{setAddress, wroteComponent, wide}
 use Rattle.chip.specs.Trace.{World, after, run}
 use Rattle.promises.specs.Good.{statusAt}
 use Rattle.promises.specs.Along.{lastPut}
-use Rattle.promises.specs.History.{effectAt, Spot, region, header, indirect, stated, putsBit, putsByte, putsEntry, putsDac, putsAim, dataSteps}
-use Rattle.promises.specs.Frame.{reaches, pokesFrom}
+use Rattle.promises.specs.History.{patchAt, Spot, stated, putsBit, lastPoke, putsEntry, aimPut, dataSteps}
+use Rattle.promises.specs.Frame.{reaches, pokes}
 
 -- what access a, made at x, puts where
 abbrev pub bitPut : Spot → World → Access → Option (Option Bool)
-bitPut q x a = putsBit q (effectAt x a)
+bitPut q x a = putsBit q (patchAt x a .store)
 
 abbrev pub bytePut : ℕ → World → Access → Option ℕ
-bytePut k x a = putsByte k (effectAt x a)
+bytePut k x a = lastPoke k (patchAt x a .puts)
 
 abbrev pub entryPut : ℕ → World → Access → Option (Option Colour)
-entryPut e x a = putsEntry e (x .state) (effectAt x a)
+entryPut e x a = putsEntry e (patchAt x a .paint)
 
 abbrev pub dacPut : World → Access → Option Dac
-dacPut x a = putsDac (x .state) (effectAt x a)
-
-abbrev pub aimPut : World → Access → Option ℕ
-aimPut x a = putsAim (effectAt x a)
+dacPut x a = patchAt x a .dac
 
 -- what a list of accesses, made from x, put into a place last, and d where it put nothing
 abbrev pub latest : {C : Type 0} → (World → Access → Option C) → World → List Access → C → C
@@ -47,9 +44,7 @@ latest puts x l d = Option·getD (lastPut after puts x l) d
 
 -- the bit that a write brings: the word's, and zero where a one clears
 unfoldable pub broughtBit : Spot → Access → Bool
-broughtBit (region r b) a = bit b (a .word)
-broughtBit (header r b) a = bit b (a .word) && not (bit b (headerRow r .clears))
-broughtBit (indirect i b) a = bit b (a .word)
+broughtBit q a = bit (q .b) (a .word) && not (bit (q .b) (bankRow (q .row) .clears))
 
 -- an accepted write of the list stored v there, and no access after it stores the bit
 pub record BitStored (x : World) (l : List Access) (q : Spot) (v : Bool) : Type 0 where
@@ -77,9 +72,9 @@ pub record ByteStored (x : World) (l : List Access) (k v : ℕ) : Type 0 where
   pub rest : List Access
   pub split : l ≡ before ++ by ∷ rest
   pub accepted : statusAt (run x before) by ≡ 0
-  pub reached : pokesFrom (run x before .state) by k (placeOf by) ≡ true
+  pub reached : pokes (run x before .state) by k ≡ true
   pub window : ℕ
-  pub through : placeOf by ≡ Window window
+  pub through : placeOf (run x before .state) by ≡ Window window
   pub value : v ≡ laneByte (laneOf (getD (run x before .state .values) window 0) (k - by .offset)) (by .word)
   pub silent : lastPut after (bytePut k) (after (run x before) by) rest ≡ none
 
@@ -90,13 +85,21 @@ pub record ByteLent (x : World) (l : List Access) (k v : ℕ) : Type 0 where
 
 -- ---- the palette's address
 
+-- an accepted write of the address with lane 0
+pub record SetsAddress (x : World) (a : Access) (v : ℕ) : Type 0 where
+  pub accepted : statusAt x a ≡ 0
+  pub write : isWrite a ≡ true
+  pub place : placeOf (x .state) a ≡ Address
+  pub lane : bit 0 (a .enables) ≡ true
+  pub value : v ≡ laneByte 0 (a .word)
+
 -- address v was set by an access of the list, and none after it set one; n accesses to palette data came since
 pub record AddressSet (x : World) (l : List Access) (v n : ℕ) : Type 0 where
   pub before : List Access
   pub by : Access
   pub rest : List Access
   pub split : l ≡ before ++ by ∷ rest
-  pub sets : effectAt (run x before) by ≡ setAddress v
+  pub sets : SetsAddress (run x before) by v
   pub silent : lastPut after aimPut (after (run x before) by) rest ≡ none
   pub count : n ≡ dataSteps (after (run x before) by) rest
 
@@ -107,6 +110,14 @@ pub record AddressAt (d : Dac) (v n : ℕ) : Type 0 where
   pub component : d .component ≡ n % 3
 
 -- ---- a palette entry
+
+-- an accepted write of palette data with lane 0, whose byte is stored as the width of that moment has it
+pub record WritesComponent (x : World) (a : Access) (v : ℕ) : Type 0 where
+  pub accepted : statusAt x a ≡ 0
+  pub write : isWrite a ≡ true
+  pub place : placeOf (x .state) a ≡ PaletteData
+  pub lane : bit 0 (a .enables) ≡ true
+  pub value : v ≡ keptAs (wide (x .state)) (laneByte 0 (a .word))
 
 -- entry e took colour c: three writes of one entry's components, red, green and blue, with no access to address or palette data between them, the
 -- address being e, and after them no access of the list stores the entry
@@ -119,9 +130,9 @@ pub record Three (x : World) (l : List Access) (e : ℕ) (c : Colour) : Type 0 w
   pub blue : Access
   pub rest : List Access
   pub split : l ≡ ((start ++ red ∷ gap) ++ green ∷ gap′) ++ blue ∷ rest
-  pub stages-red : effectAt (run x start) red ≡ wroteComponent (c .red)
-  pub stages-green : effectAt (run x (start ++ red ∷ gap)) green ≡ wroteComponent (c .green)
-  pub stores-blue : effectAt (run x ((start ++ red ∷ gap) ++ green ∷ gap′)) blue ≡ wroteComponent (c .blue)
+  pub stages-red : WritesComponent (run x start) red (c .red)
+  pub stages-green : WritesComponent (run x (start ++ red ∷ gap)) green (c .green)
+  pub stores-blue : WritesComponent (run x ((start ++ red ∷ gap) ++ green ∷ gap′)) blue (c .blue)
   pub addressed-red : run x start .state .dac .address ≡ e
   pub addressed-green : run x (start ++ red ∷ gap) .state .dac .address ≡ e
   pub addressed-blue : run x ((start ++ red ∷ gap) ++ green ∷ gap′) .state .dac .address ≡ e
@@ -130,11 +141,3 @@ pub record Three (x : World) (l : List Access) (e : ℕ) (c : Colour) : Type 0 w
       lastPut after dacPut (after (run x (start ++ red ∷ gap)) green) gap′ ≡ none
   pub silent-after :
       lastPut after (entryPut e) (after (run x ((start ++ red ∷ gap) ++ green ∷ gap′)) blue) rest ≡ none
-
--- what a write of a component is: an accepted write of palette data with lane 0, whose byte is stored as the width of that moment has it
-pub record WritesComponent (x : World) (a : Access) (v : ℕ) : Type 0 where
-  pub accepted : statusAt x a ≡ 0
-  pub write : isWrite a ≡ true
-  pub place : placeOf a ≡ PaletteData
-  pub lane : bit 0 (a .enables) ≡ true
-  pub value : v ≡ keptAs (wide (x .state)) (laneByte 0 (a .word))

@@ -1,38 +1,41 @@
 // One register a row, in the order of the offsets.
+use chip::Dac;
+use chip::INDIRECT_FIRST;
 use chip::Place;
-use console::names::say_header;
-use console::names::say_indirect;
-use console::names::say_region;
+use chip::REGION_ROWS;
+use chip::SUBSYSTEM;
+use console::names::say_row;
 use console::say::say;
 use console::say::say_hex;
 use console::say::say_word;
-use registers::header::header_at;
-use registers::header::header_known;
-use registers::header::header_moved;
-use registers::header::header_resets;
+use registers::bank::bank_knowns;
+use registers::bank::bank_resets;
+use registers::bank::held;
+use registers::bank::row_reads;
+use registers::bank::row_writable;
+use registers::bank::row_writes;
+use registers::bank::stored_bits;
 use registers::indirect::index_exists;
-use registers::indirect::index_known;
 use registers::indirect::index_reads;
+use registers::indirect::index_reset;
 use registers::indirect::index_writable;
-use registers::indirect::indirect_resets;
+use registers::offsets::header_at;
 use registers::place::place_of;
-use registers::region::region_knowns;
-use registers::region::region_moved;
-use registers::region::region_reads;
-use registers::region::region_resets;
-use registers::region::region_writes;
 
-// Every lane of a word.
-const ALL: u32 = 0xFFFFFFFF;
+// The offset of RDIndexedData.
+const INDEXED: u32 = 0x4050;
+
+// An index that has a register.
+const PRESENT: u8 = 0x06;
 
 fn cell(word: u32) {
     say(b" | ");
     say_word(word);
 }
 
-fn small_cell(byte: u8) {
+fn small_cell(word: u32) {
     say(b" | ");
-    say_hex(byte as u32);
+    say_hex(word);
 }
 
 fn directions(reads: bool, writes: bool) {
@@ -47,25 +50,46 @@ fn directions(reads: bool, writes: bool) {
     }
 }
 
+// The reset, and the bits of it that are known.
+fn at_reset(i: usize) {
+    let resets = bank_resets();
+    let knowns = bank_knowns();
+    cell(held(&resets, i));
+    cell(held(&knowns, i));
+}
+
+// The RAMDAC with its address at an index.
+fn aimed(index: u8) -> Dac {
+    Dac {
+        address: index,
+        known: 0xFF,
+        component: 0,
+        staged: 0,
+        red: 0,
+        green: 0,
+    }
+}
+
+// A register of region 0, or the port to the indirect ones.
 fn region_row(o: u32, i: usize) {
-    if 37 < i {
+    if REGION_ROWS <= i {
+        say(b"| RDIndexedData | ");
+        say_hex(o);
+        say(b" | read, write | the indirect register at the address | | |\n");
         return;
     }
-    let resets = region_resets();
-    let knowns = region_knowns();
     say(b"| ");
-    say_region(i);
+    say_row(i);
     say(b" | ");
     say_hex(o);
-    directions(region_reads(i), region_writes(i));
-    cell(region_moved(i, ALL, 0));
-    cell(resets[i]);
-    cell(knowns[i]);
+    directions(row_reads(i), row_writes(i));
+    cell(row_writable(i));
+    at_reset(i);
     say(b" |\n");
 }
 
 fn region_place(o: u32) {
-    let place = place_of(0, o);
+    let place = place_of(aimed(PRESENT), 0, o);
     match place {
         Place::Register(i) => region_row(o, i),
         Place::Address => {
@@ -88,11 +112,6 @@ fn region_place(o: u32) {
                 b" | read, write | the entry at the address, component by component | never stored | |\n",
             );
         }
-        Place::IndexedData => {
-            say(b"| RDIndexedData | ");
-            say_hex(o);
-            say(b" | read, write | the indirect register at the address | | |\n");
-        }
         _ => {}
     }
 }
@@ -108,23 +127,35 @@ pub(crate) fn region() {
     }
 }
 
-fn header_row(o: u32) {
-    let i = header_at(o);
-    if 16 < i {
+// The bits that take a write's; the subsystem numbers take a write once.
+fn writable_cell(i: usize) {
+    if i == SUBSYSTEM {
+        say(b" | once");
         return;
     }
-    let resets = header_resets();
+    cell(row_writable(i));
+}
+
+// The bits that are stored where a write has a one, and not where it has a zero.
+fn cleared_cell(i: usize) {
+    let ones = stored_bits(0, i, 15, 0xFFFFFFFF);
+    let zeros = stored_bits(0, i, 15, 0);
+    cell(ones & !zeros);
+}
+
+fn header_row(o: u32) {
+    let i = header_at(o);
+    if INDIRECT_FIRST <= i {
+        return;
+    }
     say(b"| ");
-    say_header(i);
+    say_row(i);
     say(b" | ");
     say_hex(o);
-    directions(true, true);
-    let plain = header_moved(0, i, 15, 0);
-    let ones = header_moved(0, i, 15, ALL);
-    cell(plain);
-    cell(ones & !plain);
-    cell(resets[i]);
-    cell(header_known(i));
+    directions(row_reads(i), row_writes(i));
+    writable_cell(i);
+    cleared_cell(i);
+    at_reset(i);
     say(b" |\n");
 }
 
@@ -143,16 +174,19 @@ fn indirect_row(i: u8) {
     if !index_exists(i) {
         return;
     }
-    let resets = indirect_resets();
-    let at = i as usize;
+    let place = place_of(aimed(i), 0, INDEXED);
+    let Place::Register(row) = place else {
+        return;
+    };
+    let knowns = bank_knowns();
     say(b"| ");
-    say_indirect(i);
+    say_row(row);
     say(b" | ");
     say_hex(i as u32);
-    directions(index_reads(i), true);
-    small_cell(index_writable(i));
-    small_cell(resets[at]);
-    small_cell(index_known(i));
+    directions(index_reads(i), row_writes(row));
+    small_cell(index_writable(i) as u32);
+    small_cell(index_reset(i) as u32);
+    small_cell(held(&knowns, row));
     say(b" |\n");
 }
 

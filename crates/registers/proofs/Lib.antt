@@ -1,9 +1,7 @@
 pub mod Searches
-pub mod Filled
-pub mod Plain
-pub mod RegionRows
-pub mod HeaderRows
+pub mod Flags
+pub mod Rows
+pub mod Stored
 pub mod PackedEntries
-pub mod Changed
 pub mod Places
 pub mod OneOutcome

@@ -1,25 +1,20 @@
--- The table of packed entries is the indirect map: each number opens to the parts of its entry.
+-- The table of packed entries is the map of the indices: each number opens to the parts of its entry and to its row.
 -- The packing is undone by arithmetic on parts below 256; the table is one computed list. Assumes nothing.
-use Prim.Native.Nat.{ℕ, _+_, _-_, _*_, _/_, _%_, _<_, _≤_}
-use mathlib.Core.Bool.{Bool, true, false}
-use mathlib.Core.List.{List, map}
-use mathlib.Core.Path.{_≡_, refl, sym, ap, _∙_}
+use Prim.Native.Nat.{ℕ, zero, suc, _+_, _*_, _/_, _%_, _<_, _≤_}
+use mathlib.Core.List.{List, [], _∷_}
+use mathlib.Core.Path.{_≡_, ap, _∙_}
+use native.Mathlib.Nat.{not-suc-le-zero, le-of-suc-le-suc}
 use native.Mathlib.Omega.{arith}
-use lib.Bits.{bitAnd, or-lt, and-le-l, and-le-r}
+use borrow.Author.Tests.{ltb-true}
 use lib.Dec.{eqb}
-use lib.ListN.{getD, length, length-map}
-use lib.Seq.{ext-getD}
+use lib.ListN.{getD}
 use Rattle.bits.specs.Choose.{pick}
-use Rattle.bits.specs.Word.{full, inside, outside, joined, merged}
-use Rattle.bits.proofs.Lists.{getD-map}
-use Rattle.chip.specs.Indirect.{Entry, nothing, indexCount, indirectEntry, indirectMap}
-use Rattle.chip.specs.Register.{faults}
+use Rattle.bits.proofs.Cases.{pick-when}
+use Rattle.chip.specs.Bank.{bankCount, indexCount, Entry, indirectAt, indirectEntry}
 use Rattle.chip.specs.Rules.{EntryRule}
-use Rattle.chip.specs.Sound.{indirectOk, indirectSound}
-use Rattle.chip.specs.State.{indirectResets}
-use Rattle.chip.proofs.Tables.{map-at, map-length, indirect-rule}
-use Rattle.registers.specs.Packed.{packed, writableIn, resetIn, knownIn, packedFaults, packedOk, packedSound, ResetsOf}
-use Rattle.bits.proofs.Gathers.{every-same}
+use Rattle.chip.proofs.Tables.{indirect-rule}
+use Rattle.registers.specs.Packed.{indexRow, packed, packedAt}
+use Rattle.registers.proofs.Flags.{flag-le, flag-is}
 
 -- ---- one number
 
@@ -35,84 +30,53 @@ parts : (w r k x y : ℕ) → w < 256 → r < 256 → k < 256 → x ≤ 1 → y 
 parts w r k x y hw hr hk hx hy =
     record { low = omega arith; next = omega arith; third = omega arith; first = omega arith; second = omega arith }
 
-flag-le : (t : Bool) → pick t 1 0 ≤ 1
-flag-le true = omega arith
-flag-le false = omega arith
+-- what the number of an entry and a row opens to
+pub record Unpacks (e : Entry) (row p : ℕ) : Type 0 where
+  pub writable : p % 256 ≡ e .writable
+  pub reset : p / 256 % 256 ≡ e .reset
+  pub row-in : p / 65536 % 256 ≡ row
+  pub exists : eqb (p / 0x1000000 % 2) 1 ≡ e .exists
+  pub reads : eqb (p / 0x2000000 % 2) 1 ≡ e .reads
 
-flag-is : (t : Bool) → eqb (pick t 1 0) 1 ≡ t
-flag-is true = refl
-flag-is false = refl
-
--- what the number of an entry opens to
-pub record Unpacks (e : Entry) : Type 0 where
-  pub writable : writableIn (packed e) ≡ e .writable
-  pub reset : resetIn (packed e) ≡ e .reset
-  pub known : knownIn (packed e) ≡ e .known
-  pub exists : eqb (packed e / 0x1000000 % 2) 1 ≡ e .exists
-  pub reads : eqb (packed e / 0x2000000 % 2) 1 ≡ e .reads
-
-unpacks-entry : (e : Entry) → EntryRule e → Unpacks e
-unfolding packed writableIn resetIn knownIn
-unpacks-entry e q =
-    let p = parts (e .writable) (e .reset) (e .known) (pick (e .exists) 1 0) (pick (e .reads) 1 0) (q .bits) (q .value) (q .byte)
-    (flag-le (e .exists)) (flag-le (e .reads)) in
+unpacks-entry : (e : Entry) (row : ℕ) → EntryRule e → row < 256 → Unpacks e row (packed e row)
+unfolding packed
+unpacks-entry e row q h =
+    let p = parts (e .writable) (e .reset) row (pick (e .exists) 1 0) (pick (e .reads) 1 0) (q .bits) (q .value) h
+    (flag-le (e .exists) 1) (flag-le (e .reads) 1) in
     record {
       writable = p .low;
       reset = p .next;
-      known = p .third;
+      row-in = p .third;
       exists = ap (λ (n : ℕ). eqb n 1) (p .first) ∙ flag-is (e .exists);
       reads = ap (λ (n : ℕ). eqb n 1) (p .second) ∙ flag-is (e .reads);
     }
 
-pub unpacks : (i : ℕ) → i < indexCount → Unpacks (indirectEntry i)
-unpacks i h = unpacks-entry (indirectEntry i) (indirect-rule i h)
+row-byte : (i : ℕ) → indexRow i < 256
+unfolding indexRow indirectEntry
+row-byte i =
+    pick-when (λ (n : ℕ). n < 256) (indirectEntry i .exists) (indirectAt i) 0
+    (λ e. let h = ltb-true (indirectAt i) bankCount e in omega arith) (λ e. omega arith)
 
 -- ---- the table
 
+-- what the table has at an index opens to the map's entry there
+pub unpacks : (i p : ℕ) → i < indexCount → p ≡ packedAt i → Unpacks (indirectEntry i) (indexRow i) p
+unfolding packedAt
+unpacks i p h e = rw e (unpacks-entry (indirectEntry i) (indexRow i) (indirect-rule i h) (row-byte i))
+
+-- a function's values from i on, n of them
+abbrev listed : (ℕ → ℕ) → ℕ → ℕ → List ℕ
+listed f i zero = []
+listed f i (suc n) = f i ∷ listed f (suc i) n
+
+listed-at : (f : ℕ → ℕ) (i n k : ℕ) → k < n → getD (listed f i n) k 0 ≡ f (i + k)
+listed-at f i zero k h = absurd (not-suc-le-zero h)
+listed-at f i (suc n) zero h = ap f (let e : i ≡ i + 0 = omega arith in e)
+listed-at f i (suc n) (suc k) h = listed-at f (suc i) n k (le-of-suc-le-suc h) ∙ ap f (let e : suc i + k ≡ i + suc k = omega arith in e)
+
 unfoldable pub packedMap : List ℕ
-packedMap = map packed indirectMap
+packedMap = listed packedAt 0 indexCount
 
-nothing-packed : packed nothing ≡ 0
-unfolding packed
-nothing-packed = refl
-
-packed-at : (i : ℕ) → i < indexCount → getD packedMap i 0 ≡ packed (indirectEntry i)
+pub packed-at : (i : ℕ) → i < indexCount → getD packedMap i 0 ≡ packedAt i
 unfolding packedMap
-packed-at i h = getD-map packed indirectMap i nothing nothing-packed ∙ ap packed (map-at i h)
-
-pub packed-found : (i r : ℕ) → i < indexCount → r ≡ getD packedMap i 0 → r ≡ packed (indirectEntry i)
-packed-found i r h e = e ∙ packed-at i h
-
-same-entry : (vs : List ℕ) (i : ℕ) → i < indexCount → packedOk vs packedMap i ≡ indirectOk vs i
-unfolding packedOk packedFaults indirectOk
-same-entry vs i h =
-    let u = unpacks i h in
-    ap (λ (p : ℕ). eqb (faults (getD vs i 0) (knownIn p) (writableIn p) (resetIn p) (knownIn p)) 0) (packed-at i h)
-    ∙ rw (u .known, u .writable, u .reset)
-
-pub indirect-sound : (vs : List ℕ) (r : Bool) → r ≡ packedSound vs packedMap → r ≡ indirectSound vs
-unfolding packedSound indirectSound
-indirect-sound vs r e = e ∙ every-same _ _ indexCount (λ i h. same-entry vs i h)
-
--- ---- the resets
-
-reset-at : (i : ℕ) → i < indexCount → getD indirectResets i 0 ≡ indirectEntry i .reset
-unfolding indirectResets
-reset-at i h =
-    getD-map (λ (e : Entry). e .reset) indirectMap i nothing refl ∙ ap (λ (e : Entry). e .reset) (map-at i h)
-
-resets-length : length indirectResets ≡ indexCount
-unfolding indirectResets
-resets-length = length-map indirectMap (λ (e : Entry). e .reset) ∙ map-length
-
-pub resets-all : (rs : List ℕ) → ResetsOf packedMap rs → rs ≡ indirectResets
-resets-all rs q =
-    ext-getD 0 rs indirectResets (q .long ∙ sym resets-length) (λ i h.
-    let k : i < indexCount = omega (arith, q .long) in
-    q .each i k ∙ ap resetIn (packed-at i k) ∙ unpacks i k .reset ∙ sym (reset-at i k))
-
--- ---- a byte keeps a byte
-
-pub merged-byte : (old word m : ℕ) → old < 256 → m < 256 → merged old word m < 256
-unfolding merged joined outside inside
-merged-byte old word m h k = or-lt 8 (bitAnd old (full - m)) (bitAnd word m) (omega (arith, and-le-l old (full - m))) (omega (arith, and-le-r word m))
+packed-at i h = listed-at packedAt 0 indexCount i h ∙ ap packedAt (let e : 0 + i ≡ i = omega arith in e)

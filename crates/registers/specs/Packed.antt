@@ -1,40 +1,16 @@
--- An entry of the indirect map as one number, as the code's table has it: writable in bits 0-7, reset in 8-15, known in 16-23, exists in bit 24, reads in
--- bit 25.
-use Prim.Native.Nat.{ℕ, _+_, _*_, _/_, _%_, _<_}
-use mathlib.Core.Bool.{Bool}
-use mathlib.Core.List.{List}
-use mathlib.Core.Path.{_≡_}
-use lib.Dec.{eqb}
-use lib.ListN.{getD, length}
-use Rattle.bits.specs.Choose.{pick, everyTo}
-use Rattle.chip.specs.Indirect.{Entry, indexCount}
-use Rattle.chip.specs.Register.{faults}
+-- An entry of the map of the indices as one number, as the code's table has it: writable in bits 0-7, reset in 8-15, the bank's row in 16-23, exists in
+-- bit 24, reads in bit 25.
+use Prim.Native.Nat.{ℕ, _+_, _*_}
+use Rattle.bits.specs.Choose.{pick}
+use Rattle.chip.specs.Bank.{Entry, indirectAt, indirectEntry}
 
-unfoldable pub packed : Entry → ℕ
-packed e =
-    e .writable + e .reset * 0x100 + e .known * 0x10000 + pick (e .exists) 1 0 * 0x1000000 + pick (e .reads) 1 0 * 0x2000000
+-- the row that an index names, and 0 where nothing exists
+unfoldable pub indexRow : ℕ → ℕ
+indexRow i = pick (indirectEntry i .exists) (indirectAt i) 0
 
--- the bytes of such a number
-unfoldable pub writableIn : ℕ → ℕ
-writableIn p = p % 256
+unfoldable pub packed : Entry → ℕ → ℕ
+packed e row =
+    e .writable + e .reset * 0x100 + row * 0x10000 + pick (e .exists) 1 0 * 0x1000000 + pick (e .reads) 1 0 * 0x2000000
 
-unfoldable pub resetIn : ℕ → ℕ
-resetIn p = p / 256 % 256
-
-unfoldable pub knownIn : ℕ → ℕ
-knownIn p = p / 65536 % 256
-
--- the bits at fault of a register that holds v, and that no register of a table has any
-unfoldable pub packedFaults : ℕ → ℕ → ℕ
-packedFaults v p = faults v (knownIn p) (writableIn p) (resetIn p) (knownIn p)
-
-unfoldable pub packedOk : (vs ps : List ℕ) → ℕ → Bool
-packedOk vs ps i = eqb (packedFaults (getD vs i 0) (getD ps i 0)) 0
-
-unfoldable pub packedSound : (vs ps : List ℕ) → Bool
-packedSound vs ps = everyTo (packedOk vs ps) indexCount
-
--- the resets of a table, index by index
-pub record ResetsOf (ps rs : List ℕ) : Type 0 where
-  pub long : length rs ≡ indexCount
-  pub each : (i : ℕ) → i < indexCount → getD rs i 0 ≡ resetIn (getD ps i 0)
+unfoldable pub packedAt : ℕ → ℕ
+packedAt i = packed (indirectEntry i) (indexRow i)

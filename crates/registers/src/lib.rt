@@ -1,7 +1,7 @@
-// The registers: where each is, what a write may change of it, and what it holds. A module for region 0, one for the
-// configuration header, one for the RAMDAC's indirect registers, and one for where an access leads.
-pub mod header;
-pub mod indirect;
-pub mod place;
-pub mod region;
-mod table;
+// The registers: where each is, what a write may change of it, what it holds at reset, and where an access leads.
+pub mod bank; // bank.rt: the columns of the bank's rows, and what a write of a row stores
+pub mod indirect; // indirect.rt: the map of the RAMDAC's 256 indices
+pub mod offsets; // offsets.rt: the rows of region 0's offsets and of the header's
+pub mod place; // place.rt: where an access leads
+mod subsystem; // subsystem.rt: the two numbers that are written once
+mod table; // table.rt: what every table is asked

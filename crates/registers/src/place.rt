@@ -1,30 +1,60 @@
-// Where an access leads, from its target and offset alone (01, An access and its answer).
+// Where an access leads, from its target, its offset and the RAMDAC's address (01, An access and its answer, RAMDAC).
 ghost use mathlib.Core.Path.{_≡_};
-ghost use Rattle.chip.specs.Place.{regionPlace, headerPlace, placeAt};
+ghost use Rattle.chip.specs.Place.{dataPlace, indexedPlace, regionPlace, headerPlace, placeAt};
 ghost use Rattle.registers.specs.Found.{registerPlace};
-use super::header::header_at;
-use super::region::region_at;
+use super::indirect::index_row;
+use super::offsets::header_at;
+use super::offsets::region_at;
+use chip::APERTURE_ONE;
+use chip::APERTURE_TWO;
+use chip::Dac;
+use chip::INDIRECT_FIRST;
 use chip::Place;
+use chip::REGION_ROWS;
+
+// While a bit of the address is unknown, palette data and indexed data are nowhere.
+fn data_place(d: Dac) -> Place
+    ensures { λ r. ⌜ r ≡ dataPlace d ⌝ }
+{
+    if d.known == 0xFF {
+        return Place::PaletteData;
+    }
+    Place::Nowhere
+}
+
+// Indexed data is the register that the map has at the address, if one exists.
+fn indexed_place(d: Dac) -> Place
+    ensures { λ r. ⌜ r ≡ indexedPlace d ⌝ }
+{
+    if d.known != 0xFF {
+        return Place::Nowhere;
+    }
+    let i = index_row(d.address);
+    if i < INDIRECT_FIRST {
+        return Place::Nowhere;
+    }
+    Place::Register(i)
+}
 
 fn register_place(o: u32) -> Place
     ensures { λ r. ⌜ r ≡ registerPlace o ⌝ }
 {
     let i = region_at(o);
-    if i < 38 {
+    if i < REGION_ROWS {
         return Place::Register(i);
     }
     Place::Nowhere
 }
 
 // Region 0: the RAMDAC's ports, else a register of the table, else nowhere.
-fn region_place(o: u32) -> Place
-    ensures { λ r. ⌜ r ≡ regionPlace o ⌝ }
+fn region_place(d: Dac, o: u32) -> Place
+    ensures { λ r. ⌜ r ≡ regionPlace d o ⌝ }
 {
     match o {
         0x4000 => Place::Address,
-        0x4008 => Place::PaletteData,
+        0x4008 => data_place(d),
         0x4018 => Place::Address,
-        0x4050 => Place::IndexedData,
+        0x4050 => indexed_place(d),
         _ => register_place(o),
     }
 }
@@ -37,19 +67,19 @@ fn header_place(o: u32) -> Place
         return Place::Nowhere;
     }
     let i = header_at(o);
-    if i < 17 {
-        return Place::Config(i);
+    if i < INDIRECT_FIRST {
+        return Place::Register(i);
     }
     Place::Blank
 }
 
-pub fn place_of(target: u32, offset: u32) -> Place
-    ensures { λ r. ⌜ r ≡ placeAt target offset ⌝ }
+pub fn place_of(d: Dac, target: u32, offset: u32) -> Place
+    ensures { λ r. ⌜ r ≡ placeAt d target offset ⌝ }
 {
     match target {
-        0 => region_place(offset),
-        1 => Place::Window(0),
-        2 => Place::Window(1),
+        0 => region_place(d, offset),
+        1 => Place::Window(APERTURE_ONE),
+        2 => Place::Window(APERTURE_TWO),
         3 => header_place(offset),
         _ => Place::Nowhere,
     }

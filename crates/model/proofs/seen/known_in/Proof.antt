@@ -3,7 +3,7 @@
 use mathlib.Core.Path.{ap, _∙_}
 use borrow.Author.Needs.{needs}
 use Rattle.bits.specs.Word.{inside}
-use Rattle.chip.specs.Effect.{knownIn}
+use Rattle.chip.specs.Port.{knownIn}
 use Rattle.model.proofs.seen.known_in.Statement.{statement}
 use Rattle.model.proofs.seen.known_in.Tie as tie
 

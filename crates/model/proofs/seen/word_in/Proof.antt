@@ -3,7 +3,7 @@
 use mathlib.Core.Path.{ap, _∙_}
 use borrow.Author.Needs.{needs}
 use Rattle.bits.specs.Word.{inside}
-use Rattle.chip.specs.Effect.{wordIn}
+use Rattle.chip.specs.Port.{wordIn}
 use Rattle.model.proofs.seen.word_in.Statement.{statement}
 use Rattle.model.proofs.seen.word_in.Tie as tie
 

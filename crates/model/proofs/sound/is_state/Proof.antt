@@ -1,5 +1,4 @@
--- `model::sound::is_state` is the test of refusal 1.
--- Its six tests joined. Assumes nothing.
+-- `model::sound::is_state` is the definition: the groups of tests joined. Assumes nothing.
 use Rattle.model.proofs.TestLaws.{all-tests}
 use borrow.Author.Needs.{needs}
 use Rattle.model.proofs.sound.is_state.Statement.{statement}
@@ -11,20 +10,21 @@ sizes-ok-requires c κs = search needs
 dac-sound-requires : tie.Need-dac-sound-requires
 dac-sound-requires c κs = search needs
 
-region-sound-requires : tie.Need-region-sound-requires
-region-sound-requires c κs = search needs
-
-header-sound-requires : tie.Need-header-sound-requires
-header-sound-requires c κs = search needs
-
-indirect-sound-requires : tie.Need-indirect-sound-requires
-indirect-sound-requires c κs = search needs
+bank-sound-requires : tie.Need-bank-sound-requires
+bank-sound-requires c κs = search needs
 
 palette-sound-requires : tie.Need-palette-sound-requires
 palette-sound-requires c κs = search needs
 
 returns : tie.Need-returns
-returns c = all-tests _ _ _ _ _ _ _ (c .before .before .before .before .before .before .before .before .before .before .before .before .before .before .before .before .before .before .sizes-ok .ensures) (c .before .before .before .before .before .before .before .before .before .before .before .before .before .before .before .before .dac-sound .ensures) (c .before .before .before .before .before .before .before .before .before .before .before .before .region-sound .ensures) (c .before .before .before .before .before .before .before .before .before .header-sound .ensures) (c .before .before .before .before .before .before .indirect-sound .ensures) (c .palette-sound .ensures)
+returns c = all-tests _ _ _ _ _ (c .before .before .before .before .before .before .before .before .before .before .before .before .sizes-ok .ensures) (c .before .before .before .before .before .before .before .before .before .before .dac-sound .ensures) (c .before .before .before .before .before .before .bank-sound .ensures) (c .palette-sound .ensures)
 
 pub is-state-spec : {M : Type 1} → statement M
-is-state-spec = tie.close (tie.spec sizes-ok-requires dac-sound-requires region-sound-requires header-sound-requires indirect-sound-requires palette-sound-requires returns)
+is-state-spec =
+    tie.close
+    (tie.spec
+    sizes-ok-requires
+    dac-sound-requires
+    bank-sound-requires
+    palette-sound-requires
+    returns)

@@ -1,8 +1,8 @@
 -- `model::status::form_status` is the lines from 3 on.
 -- Line by line. Assumes nothing.
 use borrow.Author.Tests.{not-true, not-false}
-use borrow.Author.Needs.{needs}
 use Rattle.model.proofs.TestLaws.{line-three, line-four, after-four}
+use borrow.Author.Needs.{needs}
 use Rattle.model.proofs.status.form_status.Statement.{statement}
 use Rattle.model.proofs.status.form_status.Tie as tie
 

@@ -1,48 +1,75 @@
--- `model::status::place_status` is lines 5, 6 and 7.
--- Line by line. Assumes nothing.
-use borrow.Author.Tests.{not-true, not-false}
+-- `model::status::place_status` is lines 5, 6 and 7, place by place. Assumes nothing.
+use mathlib.Core.Path.{refl}
+use Rattle.bits.proofs.Cases.{pick-same}
+use mathlib.Core.Bool.{true}
+use Rattle.chip.specs.Port.{portAt}
+use Rattle.chip.specs.Refusal.{isWrite}
+use Rattle.model.proofs.TestLaws.{line-five, no-line}
 use borrow.Author.Needs.{needs}
-use Rattle.model.proofs.TestLaws.{line-five, line-six, line-seven, no-line}
 use Rattle.model.proofs.status.place_status.Statement.{statement}
 use Rattle.model.proofs.status.place_status.Tie as tie
 
-place-of-requires : tie.Need-place-of-requires
-place-of-requires c κs = search needs
+enum-known-p : tie.Need-enum-known-p
+enum-known-p c = search needs
 
-present-at-requires : tie.Need-present-at-requires
-present-at-requires c κs = search needs
+register-status-requires : tie.Need-register-status-requires
+register-status-requires c κs = search needs
+
+enum-told : tie.Need-enum-told
+enum-told c = search needs
+
+enum-told-2 : tie.Need-enum-told-2
+enum-told-2 c = search needs
+
+enum-known-p-2 : tie.Need-enum-known-p-2
+enum-known-p-2 c = search needs
+
+window-status-requires : tie.Need-window-status-requires
+window-status-requires c κs = search needs
+
+enum-told-3 : tie.Need-enum-told-3
+enum-told-3 c = search needs
+
+enum-told-4 : tie.Need-enum-told-4
+enum-told-4 c = search needs
 
 returns : tie.Need-returns
-returns c = line-five _ _ _ (c .before .before .place-of .ensures) _ (c .before .present-at .ensures) (not-true _ (c .if1 .taken))
-
-is-write-requires : tie.Need-is-write-requires
-is-write-requires c κs = search needs
-
-way-at-requires : tie.Need-way-at-requires
-way-at-requires c κs = search needs
+returns c = rw (c .before .before .p .given .1) (c .register-status .ensures)
 
 returns-2 : tie.Need-returns-2
-returns-2 c = line-six _ _ _ (c .before .before .before .before .before .place-of .ensures) _ (c .before .before .before .before .present-at .ensures) _ (c .before .before .is-write .ensures) _ (c .before .way-at .ensures) (not-false _ (c .before .before .before .if1 .left)) (not-true _ (c .if2 .taken))
-
-served-at-requires : tie.Need-served-at-requires
-served-at-requires c κs = search needs
+unfolding portAt
+returns-2 c = rw (c .enum-told .given .1) (no-line _ _ refl (pick-same (isWrite (c .before .before .args .a)) true) refl)
 
 returns-3 : tie.Need-returns-3
-returns-3 c = line-seven _ _ _ (c .before .before .before .before .before .before .before .place-of .ensures) _ (c .before .before .before .before .before .before .present-at .ensures) _ (c .before .before .before .before .is-write .ensures) _ (c .before .before .before .way-at .ensures) (not-false _ (c .before .before .before .before .before .if1 .left)) _ (c .before .served-at .ensures) (not-false _ (c .before .before .if2 .left)) (not-true _ (c .if3 .taken))
+unfolding portAt
+returns-3 c = rw (c .enum-told2 .given .1) (no-line _ _ refl (pick-same (isWrite (c .before .before .args .a)) true) refl)
 
 returns-4 : tie.Need-returns-4
-returns-4 c = no-line _ _ _ (c .before .before .before .before .before .before .before .place-of .ensures) _ (c .before .before .before .before .before .before .present-at .ensures) _ (c .before .before .before .before .is-write .ensures) _ (c .before .before .before .way-at .ensures) (not-false _ (c .before .before .before .before .before .if1 .left)) _ (c .before .served-at .ensures) (not-false _ (c .before .before .if2 .left)) (not-false _ (c .if3 .left))
+returns-4 c = rw (c .before .before .p2 .given .1) (c .window-status .ensures)
+
+returns-5 : tie.Need-returns-5
+unfolding portAt
+returns-5 c = rw (c .enum-told3 .given .1) (no-line _ _ refl (pick-same (isWrite (c .before .before .args .a)) true) refl)
+
+returns-6 : tie.Need-returns-6
+unfolding portAt
+returns-6 c = rw (c .enum-told4 .given .1) (line-five _ _ refl)
 
 pub place-status-spec : {M : Type 1} → statement M
 place-status-spec =
     tie.close
     (tie.spec
-    place-of-requires
-    present-at-requires
+    enum-known-p
+    register-status-requires
+    enum-told
+    enum-told-2
+    enum-known-p-2
+    window-status-requires
+    enum-told-3
+    enum-told-4
     returns
-    is-write-requires
-    way-at-requires
     returns-2
-    served-at-requires
     returns-3
-    returns-4)
+    returns-4
+    returns-5
+    returns-6)

@@ -1,34 +1,17 @@
--- `model::window::write_window` is the write through the aperture.
--- Lane after lane (WindowLaws). Assumes nothing.
-use native.Mathlib.Omega.{arith}
-use Rattle.model.proofs.WindowLaws.{lane-fits, window-small, window-done}
+-- `model::window::write_window` is the write through the aperture: its control register, its lanes, the answer. Assumes nothing.
+use Rattle.model.proofs.WindowLaws.{window-done}
 use borrow.Author.Needs.{needs}
 use Rattle.model.proofs.window.write_window.Statement.{statement}
 use Rattle.model.proofs.window.write_window.Tie as tie
 
-row-of-requires : tie.Need-row-of-requires
-row-of-requires c κs = search needs
+held-requires : tie.Need-held-requires
+held-requires c κs = search needs
 
-write-lane-requires : tie.Need-write-lane-requires
-write-lane-requires c κs = search needs
+write-lanes-requires : tie.Need-write-lanes-requires
+write-lanes-requires c κs = search needs
 
-write-lane-requires-2 : tie.Need-write-lane-requires-2
-write-lane-requires-2 c κs = lane-fits _ _ _ _ _ _ _ _ _ (c .before .before .before .before .before .before .before .before .before .before .before .before .before .pre) (c .before .before .before .before .before .before .write-lane .ensures)
-
-write-lane-requires-3 : tie.Need-write-lane-requires-3
-write-lane-requires-3 c κs = lane-fits _ _ _ _ _ _ _ _ _ (lane-fits _ _ _ _ _ _ _ _ _ (c .before .before .before .before .before .before .before .before .before .before .before .before .before .before .before .before .before .before .before .before .pre) (c .before .before .before .before .before .before .before .before .before .before .before .before .before .write-lane .ensures)) (c .before .before .before .before .before .before .write-lane2 .ensures)
-
-write-lane-requires-4 : tie.Need-write-lane-requires-4
-write-lane-requires-4 c κs = lane-fits _ _ _ _ _ _ _ _ _ (lane-fits _ _ _ _ _ _ _ _ _ (lane-fits _ _ _ _ _ _ _ _ _ (c .before .before .before .before .before .before .before .before .before .before .before .before .before .before .before .before .before .before .before .before .before .before .before .before .before .before .before .pre) (c .before .before .before .before .before .before .before .before .before .before .before .before .before .before .before .before .before .before .before .before .write-lane .ensures)) (c .before .before .before .before .before .before .before .before .before .before .before .before .before .write-lane2 .ensures)) (c .before .before .before .before .before .before .write-lane3 .ensures)
-
-add-t28 : tie.Need-add-t28
-add-t28 c = omega (arith, window-small _ _ _ _ _ _ _ _ _ _ _ _ _ _ _ _ _ (c .before .before .before .before .before .before .before .before .before .before .before .before .before .before .before .before .before .before .before .before .before .before .before .before .before .write-lane .ensures) (c .before .before .before .before .before .before .before .before .before .before .before .before .before .before .before .before .before .before .write-lane2 .ensures) (c .before .before .before .before .before .before .before .before .before .before .before .write-lane3 .ensures) (c .before .before .before .before .write-lane4 .ensures) (c .before .before .before .before .before .before .before .before .before .before .before .before .before .before .before .before .before .before .before .before .before .before .before .before .before .before .before .before .before .before .before .before .pre))
-
-add-t29 : tie.Need-add-t29
-add-t29 c = omega (arith, window-small _ _ _ _ _ _ _ _ _ _ _ _ _ _ _ _ _ (c .before .before .before .before .before .before .before .before .before .before .before .before .before .before .before .before .before .before .before .before .before .before .before .before .before .write-lane .ensures) (c .before .before .before .before .before .before .before .before .before .before .before .before .before .before .before .before .before .before .write-lane2 .ensures) (c .before .before .before .before .before .before .before .before .before .before .before .write-lane3 .ensures) (c .before .before .before .before .write-lane4 .ensures) (c .before .before .before .before .before .before .before .before .before .before .before .before .before .before .before .before .before .before .before .before .before .before .before .before .before .before .before .before .before .before .before .before .pre))
-
-add-t30 : tie.Need-add-t30
-add-t30 c = omega (arith, window-small _ _ _ _ _ _ _ _ _ _ _ _ _ _ _ _ _ (c .before .before .before .before .before .before .before .before .before .before .before .before .before .before .before .before .before .before .before .before .before .before .before .before .before .write-lane .ensures) (c .before .before .before .before .before .before .before .before .before .before .before .before .before .before .before .before .before .before .write-lane2 .ensures) (c .before .before .before .before .before .before .before .before .before .before .before .write-lane3 .ensures) (c .before .before .before .before .write-lane4 .ensures) (c .before .before .before .before .before .before .before .before .before .before .before .before .before .before .before .before .before .before .before .before .before .before .before .before .before .before .before .before .before .before .before .before .pre))
+done-requires : tie.Need-done-requires
+done-requires c κs = search needs
 
 same-length : tie.Need-same-length
 same-length c = search needs
@@ -37,7 +20,9 @@ same-length-2 : tie.Need-same-length-2
 same-length-2 c = search needs
 
 returns : tie.Need-returns
-returns c = window-done _ _ _ _ _ _ _ _ _ _ _ _ _ _ _ _ _ (c .before .before .before .before .before .before .before .before .before .before .before .before .before .before .before .before .before .before .before .before .before .before .before .before .before .write-lane .ensures) (c .before .before .before .before .before .before .before .before .before .before .before .before .before .before .before .before .before .before .write-lane2 .ensures) (c .before .before .before .before .before .before .before .before .before .before .before .write-lane3 .ensures) (c .before .before .before .before .write-lane4 .ensures) _ (c .before .before .before .before .before .before .before .before .before .before .before .before .before .before .before .before .before .before .before .before .before .before .before .before .before .before .before .before .row-of .ensures)
+returns c = window-done (c .before .before .before .before .before .write-lanes .ensures) _ _ (c .before .before .before .before .before .before .before .before .held .ensures) (c .done .ensures)
 
 pub write-window-spec : {M : Type 1} → statement M
-write-window-spec = tie.close (tie.spec row-of-requires write-lane-requires write-lane-requires-2 write-lane-requires-3 write-lane-requires-4 add-t28 add-t29 add-t30 same-length same-length-2 returns)
+write-window-spec =
+    tie.close
+    (tie.spec held-requires write-lanes-requires done-requires same-length same-length-2 returns)

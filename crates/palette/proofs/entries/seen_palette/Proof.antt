@@ -1,8 +1,8 @@
 -- `palette::entries::seen_palette` is the definition, by what the entry holds. Assumes nothing.
 use Prim.Native.Nat.{ℕ}
-use mathlib.Core.Path.{sym, ap, ap₂, _∙_}
-use Rattle.chip.specs.Palette.{shownAs}
-use Rattle.chip.specs.Effect.{seen}
+use mathlib.Core.Path.{sym, ap, _∙_}
+use Rattle.chip.specs.Palette.{entryOf, shownAs}
+use Rattle.chip.specs.Port.{seen}
 use Rattle.palette.proofs.AccessLaws.{sees-never, sees-part}
 use borrow.Author.Needs.{needs}
 use Rattle.palette.proofs.entries.seen_palette.Statement.{statement}
@@ -17,9 +17,6 @@ enum-told c = search needs
 enum-known-f : tie.Need-enum-known-f
 enum-known-f c = search needs
 
-palette-wide-requires : tie.Need-palette-wide-requires
-palette-wide-requires c κs = search needs
-
 part-of-requires : tie.Need-part-of-requires
 part-of-requires c κs = search needs
 
@@ -30,15 +27,12 @@ wide-of-requires : tie.Need-wide-of-requires
 wide-of-requires c κs = search needs
 
 returns : tie.Need-returns
-returns c = sees-never (c .before .before .before .before .before .args .s) (sym (c .enum-told .given .1) ∙ c .before .before .entry-of .ensures)
+returns c = sees-never (entryOf (c .before .before .before .args .p) (c .before .before .before .args .d .address)) (c .before .before .before .args .wide) (c .before .before .before .args .d .component) (sym (c .enum-told .given .1) ∙ c .before .before .entry-of .ensures)
 
 returns-2 : tie.Need-returns-2
 returns-2 c =
-    let p = c .before .before .before in
-    let f = p .before .before in
-    ap (λ (n : ℕ). seen n 0xFF)
-    (c .wide-of .ensures ∙ c .before .shown-as .ensures ∙ ap₂ shownAs (p .palette-wide .ensures) (c .before .before .part-of .ensures))
-    ∙ sees-part (f .before .before .before .before .before .args .s) _ (sym (f .f .given .1) ∙ f .before .before .entry-of .ensures)
+    ap (λ (n : ℕ). seen n 0xFF) (c .wide-of .ensures ∙ c .before .shown-as .ensures ∙ ap (shownAs (c .before .before .before .before .before .before .before .args .wide)) (c .before .before .part-of .ensures))
+    ∙ sees-part (entryOf (c .before .before .before .before .before .before .before .args .p) (c .before .before .before .before .before .before .before .args .d .address)) (c .before .before .before .before .before .before .before .args .wide) (c .before .before .before .before .before .before .before .args .d .component) _ (sym (c .before .before .before .before .f .given .1) ∙ c .before .before .before .before .before .before .entry-of .ensures)
 
 pub seen-palette-spec : {M : Type 1} → statement M
 seen-palette-spec =
@@ -47,7 +41,6 @@ seen-palette-spec =
     entry-of-requires
     enum-told
     enum-known-f
-    palette-wide-requires
     part-of-requires
     shown-as-requires
     wide-of-requires

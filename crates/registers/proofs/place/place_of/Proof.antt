@@ -1,4 +1,5 @@
--- `registers::place::place_of`: the four targets by their numbers, any other nowhere. Assumes nothing.
+-- `registers::place::place_of` is where an access leads.
+-- The four targets by their numbers, any other nowhere. Assumes nothing.
 use borrow.Author.Needs.{needs}
 use native.Mathlib.Omega.{arith}
 use Rattle.chip.specs.Place.{placeAt}
@@ -29,7 +30,7 @@ unfolding placeAt
 returns-4 c = rw (c .before .match .keys4) (c .header-place .ensures)
 
 returns-5 : tie.Need-returns-5
-returns-5 c = let a = c .before .args in no-target (a .target) (a .offset) (omega arith) (omega arith) (omega arith) (omega arith)
+returns-5 c = let a = c .before .args in no-target (a .d) (a .target) (a .offset) (omega arith) (omega arith) (omega arith) (omega arith)
 
 pub place-of-spec : {M : Type 1} → statement M
 place-of-spec =

@@ -1,17 +1,16 @@
 -- The lane of each byte by the swap code, the word of four bytes so placed, and a mode that is not served.
--- By the cases of the swap code; the word by linear arithmetic over its four bytes. Assumes nothing.
-use Prim.Native.Nat.{ℕ, _+_, _-_, _*_, _%_, _^_}
+-- By the cases of the swap code. Assumes nothing.
+use Prim.Native.Nat.{ℕ, _+_, _-_, _*_, _%_}
 use mathlib.Core.Bool.{true, false, not}
 use mathlib.Core.List.{List}
-use mathlib.Core.Path.{_≡_, sym, ap₂, _∙_}
+use mathlib.Core.Path.{_≡_, sym, ap, _∙_}
 use native.Mathlib.Nat.{add-zero}
-use native.Mathlib.Omega.{arith}
 use borrow.Author.Tests.{ne-eqb}
 use lib.ListN.{getD}
 use Rattle.bits.specs.Bit.{bit}
 use Rattle.bits.proofs.Bools.{and-false}
 use Rattle.chip.specs.Units.{atByte}
-use Rattle.chip.specs.Aperture.{swapOf, served, laneOf, inLane, wordFrom}
+use Rattle.chip.specs.Aperture.{swapOf, served, laneOf, reach, readLane, wordFrom}
 
 -- byte swapped, half-word swapped, and as it is
 pub turned : (control i : ℕ) → control % 4 ≡ 1 → laneOf control i ≡ 3 - i
@@ -28,9 +27,9 @@ straight control i p q = simp (ne-eqb (control % 4) 1 p, ne-eqb (control % 4) 2 
 
 -- ---- the word
 
-in-lane : (control o i j x : ℕ) (m : List ℕ) → laneOf control i ≡ j → x ≡ getD m (o + i) 0 → inLane control m (atByte o) i ≡ x * 256 ^ j
-unfolding inLane
-in-lane control o i j x m e h = ap₂ (λ (n k : ℕ). n * 256 ^ k) (sym h) e
+lane-source : (control o i j x : ℕ) (m : List ℕ) → laneOf control j ≡ i → x ≡ getD m (o + i) 0 → readLane control m (atByte o) j ≡ x
+unfolding readLane reach
+lane-source control o i j x m e h = ap (λ (k : ℕ). getD m (o + k) 0) e ∙ sym h
 
 -- four bytes of memory, as they are read
 pub record Four (m : List ℕ) (o a b c d : ℕ) : Type 0 where
@@ -40,23 +39,29 @@ pub record Four (m : List ℕ) (o a b c d : ℕ) : Type 0 where
   pub fourth : d ≡ getD m (o + 3) 0
 
 module _ (control : ℕ) {o a b c d : ℕ} {m : List ℕ} (f : Four m o a b c d) where
-  placed : (i j k l : ℕ) (n : ℕ) → laneOf control 0 ≡ i → laneOf control 1 ≡ j → laneOf control 2 ≡ k → laneOf control 3 ≡ l
-      → n ≡ a * 256 ^ i + b * 256 ^ j + c * 256 ^ k + d * 256 ^ l → n ≡ wordFrom control m (atByte o)
+  placed : (p q r s n : ℕ) → readLane control m (atByte o) 0 ≡ p → readLane control m (atByte o) 1 ≡ q → readLane control m (atByte o) 2 ≡ r
+      → readLane control m (atByte o) 3 ≡ s → n ≡ p + q * 256 + r * 65536 + s * 16777216 → n ≡ wordFrom control m (atByte o)
   unfolding wordFrom
-  placed i j k l n p q r s e =
-      e ∙ sym (ap₂ _+_ (ap₂ _+_ (ap₂ _+_ (in-lane control o 0 i a m p (rw add-zero (f .first))) (in-lane control o 1 j b m q (f .second)))
-      (in-lane control o 2 k c m r (f .third))) (in-lane control o 3 l d m s (f .fourth)))
+  placed p q r s n ep eq er es e = e ∙ sym (simp (ep, eq, er, es))
+
+  zero-first : a ≡ getD m (o + 0) 0
+  zero-first = rw add-zero (f .first)
 
   pub word-turned : (n : ℕ) → control % 4 ≡ 1 → n ≡ d + c * 256 + b * 65536 + a * 16777216 → n ≡ wordFrom control m (atByte o)
-  word-turned n e h = placed 3 2 1 0 n (turned control 0 e) (turned control 1 e) (turned control 2 e) (turned control 3 e) (omega arith)
+  word-turned n e h =
+      placed d c b a n (lane-source control o 3 0 d m (turned control 0 e) (f .fourth)) (lane-source control o 2 1 c m (turned control 1 e) (f .third))
+      (lane-source control o 1 2 b m (turned control 2 e) (f .second)) (lane-source control o 0 3 a m (turned control 3 e) zero-first) h
 
   pub word-crossed : (n : ℕ) → control % 4 ≡ 2 → n ≡ c + d * 256 + a * 65536 + b * 16777216 → n ≡ wordFrom control m (atByte o)
-  word-crossed n e h = placed 2 3 0 1 n (crossed control 0 e) (crossed control 1 e) (crossed control 2 e) (crossed control 3 e) (omega arith)
+  word-crossed n e h =
+      placed c d a b n (lane-source control o 2 0 c m (crossed control 0 e) (f .third)) (lane-source control o 3 1 d m (crossed control 1 e) (f .fourth))
+      (lane-source control o 0 2 a m (crossed control 2 e) zero-first) (lane-source control o 1 3 b m (crossed control 3 e) (f .second)) h
 
   pub word-straight : (n : ℕ) → (control % 4 ≡ 1 → ⊥) → (control % 4 ≡ 2 → ⊥) → n ≡ a + b * 256 + c * 65536 + d * 16777216
       → n ≡ wordFrom control m (atByte o)
   word-straight n p q h =
-      placed 0 1 2 3 n (straight control 0 p q) (straight control 1 p q) (straight control 2 p q) (straight control 3 p q) (omega arith)
+      placed a b c d n (lane-source control o 0 0 a m (straight control 0 p q) zero-first) (lane-source control o 1 1 b m (straight control 1 p q) (f .second))
+      (lane-source control o 2 2 c m (straight control 2 p q) (f .third)) (lane-source control o 3 3 d m (straight control 3 p q) (f .fourth)) h
 
 -- ---- modes
 

@@ -12,12 +12,9 @@ use Rattle.aperture.proofs.mode_served.Kinds as mode-served-kinds
 use Rattle.aperture.proofs.lane_of as lane-of
 use Rattle.aperture.proofs.lane_of.Reads as lane-of-reads
 use Rattle.aperture.proofs.lane_of.Kinds as lane-of-kinds
-use Rattle.aperture.proofs.lane_put as lane-put
-use Rattle.aperture.proofs.lane_put.Reads as lane-put-reads
-use Rattle.aperture.proofs.lane_put.Kinds as lane-put-kinds
-use Rattle.aperture.proofs.lane_value as lane-value
-use Rattle.aperture.proofs.lane_value.Reads as lane-value-reads
-use Rattle.aperture.proofs.lane_value.Kinds as lane-value-kinds
+use Rattle.aperture.proofs.lane_place as lane-place
+use Rattle.aperture.proofs.lane_place.Reads as lane-place-reads
+use Rattle.aperture.proofs.lane_place.Kinds as lane-place-kinds
 use Rattle.aperture.proofs.reaches_memory as reaches-memory
 use Rattle.aperture.proofs.reaches_memory.Reads as reaches-memory-reads
 use Rattle.aperture.proofs.reaches_memory.Kinds as reaches-memory-kinds
@@ -38,15 +35,10 @@ pub lane-of-one : (κs : Lfts 0) (a : ArgsD lane-of.signature κs) (r r′ : Res
     → lane-of-reads.Post κs a r x → lane-of-reads.Post κs a r′ x′ → r ≡ r′
 lane-of-one κs a r r′ x x′ p q = same-value p q
 
-pub lane-put-one : (κs : Lfts 0) (a : ArgsD lane-put.signature κs) (r r′ : ResD lane-put.signature κs)
-    (x x′ : AtExit (kinds.endedOf 0 lane-put-kinds.ps lane-put-kinds.r) κs)
-    → lane-put-reads.Post κs a r x → lane-put-reads.Post κs a r′ x′ → r ≡ r′
-lane-put-one κs a r r′ x x′ p q = same-value p q
-
-pub lane-value-one : (κs : Lfts 0) (a : ArgsD lane-value.signature κs) (r r′ : ResD lane-value.signature κs)
-    (x x′ : AtExit (kinds.endedOf 0 lane-value-kinds.ps lane-value-kinds.r) κs)
-    → lane-value-reads.Post κs a r x → lane-value-reads.Post κs a r′ x′ → r ≡ r′
-lane-value-one κs a r r′ x x′ p q = same-value p q
+pub lane-place-one : (κs : Lfts 0) (a : ArgsD lane-place.signature κs) (r r′ : ResD lane-place.signature κs)
+    (x x′ : AtExit (kinds.endedOf 0 lane-place-kinds.ps lane-place-kinds.r) κs)
+    → lane-place-reads.Post κs a r x → lane-place-reads.Post κs a r′ x′ → r ≡ r′
+lane-place-one κs a r r′ x x′ p q = same-value p q
 
 pub reaches-memory-one : (κs : Lfts 0) (a : ArgsD reaches-memory.signature κs) (r r′ : ResD reaches-memory.signature κs)
     (x x′ : AtExit (kinds.endedOf 0 reaches-memory-kinds.ps reaches-memory-kinds.r) κs)

@@ -1,14 +1,12 @@
 // Memory through an aperture: which modes are served, which lane each memory byte exchanges with, and the word that a read gives.
 // A place is a byte offset as the access names it; sums of it are made in 64 bits, so that none wraps.
 use bits::bit_of;
-use bits::lane_byte;
+use chip::Bytes;
 ghost use mathlib.Core.Path.{_≡_};
 ghost use Prim.Native.Nat.{_+_, _*_};
 ghost use lib.ListN.{getD};
-ghost use Rattle.bits.specs.Bit.{bit};
-ghost use Rattle.bits.specs.Word.{laneByte};
 ghost use Rattle.chip.specs.Units.{atByte};
-ghost use Rattle.chip.specs.Aperture.{served, laneOf, reachesMemory, wordFrom};
+ghost use Rattle.chip.specs.Aperture.{served, laneOf, byteFrom, span, reachesMemory, wordFrom};
 
 // Whether the aperture's mode is served: no reserved swap code, no packed 16-bit mode, no SVGA and no ROM access.
 pub fn mode_served(control: u32) -> bool
@@ -26,7 +24,8 @@ pub fn mode_served(control: u32) -> bool
     !bit_of(9, control)
 }
 
-// The lane that memory byte o + i exchanges with. Past byte 3 there is none: what it gives there is what the definition gives.
+// The lane that memory byte o + i exchanges with, and the byte of lane i: the rule is its own inverse. Past 3 there is none: what it gives there is what
+// the definition gives.
 pub fn lane_of(control: u32, i: u32) -> u32
     ensures { λ r. ⌜ r ≡ laneOf control i ⌝ }
 {
@@ -43,25 +42,16 @@ pub fn lane_of(control: u32, i: u32) -> u32
     i
 }
 
-// Whether memory byte o + i takes its lane's byte: the enable is that lane's.
-pub fn lane_put(control: u32, e: u32, i: u32) -> bool
-    ensures { λ r. ⌜ r ≡ bit (laneOf control i) e ⌝ }
+// The memory byte that lane j of an access at offset o exchanges with.
+pub fn lane_place(control: u32, o: u32, j: u32) -> Bytes
+    ensures { λ r. ⌜ r ≡ byteFrom (atByte o) (laneOf control j) ⌝ }
 {
-    let lane = lane_of(control, i);
-    bit_of(lane, e)
+    Bytes((o as u64) + (lane_of(control, j) as u64))
 }
 
-// The byte that it takes.
-pub fn lane_value(control: u32, w: u32, i: u32) -> u8
-    ensures { λ r. ⌜ r ≡ laneByte (laneOf control i) w ⌝ }
-{
-    let lane = lane_of(control, i);
-    lane_byte(lane, w)
-}
-
-// Whether the four bytes from offset o are fitted.
-pub fn reaches_memory(fitted: u32, o: u32) -> bool
-    ensures { λ r. ⌜ r ≡ reachesMemory fitted (atByte o) ⌝ }
+// Whether the bytes that an access at offset o reaches are fitted.
+pub fn reaches_memory(fitted: u32, control: u32, o: u32) -> bool
+    ensures { λ r. ⌜ r ≡ reachesMemory fitted (span control (atByte o)) ⌝ }
 {
     (o as u64) + 4 <= (fitted as u64)
 }

@@ -20,7 +20,7 @@ use Rattle.chip.specs.Register.{broughtWord}
 use Rattle.chip.specs.Subsystem.{storedBits, fixedBy}
 use Rattle.chip.specs.Palette.{entryOf, keptAs, shownAs, partOf}
 use Rattle.chip.specs.Dac.{aimedAt, afterPeek, afterPaint, completedBy}
-use Rattle.chip.specs.Aperture.{served, reachesMemory, wordFrom, putsOf}
+use Rattle.chip.specs.Aperture.{served, span, reachesMemory, wordFrom, putsOf}
 use Rattle.chip.specs.Patch.{Patch, nothingStored}
 
 -- ---- what a read sees, before its lanes are picked
@@ -119,7 +119,7 @@ portAt s a PaletteData =
     plainPort true (λ m. seenPart (wide s) (s .dac .component) (entryOf (s .palette) (s .dac .address))) (peekPatch s a) (paintPatch s a)
 portAt s a (Window i) =
     record {
-      present = reachesMemory (s .fitted) (atByte (a .offset));
+      present = reachesMemory (s .fitted) (span (getD (s .values) i 0) (atByte (a .offset)));
       reads = true;
       writes = true;
       served = served (getD (s .values) i 0);

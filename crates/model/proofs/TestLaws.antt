@@ -13,6 +13,8 @@ use Rattle.bits.proofs.Bools.{and-first}
 use Rattle.chip.specs.declared.Place.{Place}
 use Rattle.chip.specs.declared.State.{State}
 use Rattle.chip.specs.declared.Access.{Access}
+use Rattle.chip.specs.Units.{atByte}
+use Rattle.chip.specs.Aperture.{served, span, reachesMemory}
 use Rattle.chip.specs.Place.{placeOf}
 use Rattle.chip.specs.Port.{Port, portAt}
 use Rattle.chip.specs.Refusal.{Line, line, firstOf, isWrite, portOf, laterLines, accessLines, statusOf}
@@ -73,6 +75,13 @@ way-yes w v x y z e t h = simp (sym e ∙ t) (sym h)
 
 pub way-no : (w v x y z : Bool) → v ≡ w → v ≡ false → z ≡ y → pick w x y ≡ z
 way-no w v x y z e t h = simp (sym e ∙ t) (sym h)
+
+-- an aperture's two tests, from its control register
+pub fits-by : (f : ℕ) (a : Access) (v c : ℕ) (x : Bool) → c ≡ v → x ≡ reachesMemory f (span c (atByte (a .offset))) → reachesMemory f (span v (atByte (a .offset))) ≡ x
+fits-by f a v c x p q = ap (λ (k : ℕ). reachesMemory f (span k (atByte (a .offset)))) (sym p) ∙ sym q
+
+pub served-by : (v c : ℕ) (x : Bool) → c ≡ v → x ≡ served c → served v ≡ x
+served-by v c x p q = ap served (sym p) ∙ sym q
 
 module _ (q : Port) (a : Access) (x : Bool) (ex : x ≡ formOk a) where
   pub line-three : x ≡ false → 3 ≡ firstOf (laterFrom q a)

@@ -18,52 +18,53 @@ use Rattle.bits.proofs.Cases.{byTest, pick-by}
 use Rattle.chip.specs.declared.State.{State}
 use Rattle.chip.specs.declared.Access.{Access}
 use Rattle.chip.specs.declared.Answer.{Answer}
-use Rattle.chip.specs.Aperture.{Put, laneOf, putAt, putsOf, putAll}
+use Rattle.chip.specs.Aperture.{Put, laneOf, reach, putLane, putsOf, putAll}
 use Rattle.chip.specs.Units.{atByte}
 use Rattle.chip.specs.Picture.{dotByte, beyond, dotEntry, underByte, underAt, laidAt, wordAt, wordOf, chosen, redrawn, diffs}
 use Rattle.chip.specs.Step.{Gives, answered, settled}
+use Rattle.chip.proofs.Lent.{lane-back}
 use Rattle.chip.proofs.Redraw.{redrawn-length, redrawn-at, diffs-le}
 use Rattle.picture.specs.Draw.{fits, Redraws}
 use Rattle.picture.specs.Poke.{Pokes}
 use Rattle.picture.proofs.Parts.{diffs-add, still-redraws}
 use Rattle.picture.proofs.FitLaws.{panel-product, fit-panel, fit-size}
-use Rattle.model.specs.Lanes.{laneIn, LaneIn, WindowIn}
+use Rattle.model.specs.Lanes.{placeIn, laneIn, LaneIn, WindowIn}
 use Rattle.model.proofs.DoneLaws.{redraws-by, settles}
 
 -- ---- one lane
 
-module _ (s : State) (control : ℕ) (a : Access) (i : ℕ) (m p : List ℕ) (t : Bool) (et : t ≡ bit (laneOf control i) (a .enables)) where
-  lane-stored : t ≡ true → set m (a .offset + i) (laneByte (laneOf control i) (a .word)) ≡ laneIn control a i m
+module _ (s : State) (control : ℕ) (a : Access) (j : ℕ) (m p : List ℕ) (t : Bool) (et : t ≡ bit j (a .enables)) where
+  lane-stored : t ≡ true → set m (placeIn control a j) (laneByte j (a .word)) ≡ laneIn control a j m
   unfolding laneIn
   lane-stored e = simp (sym et ∙ e)
 
-  lane-kept : t ≡ false → m ≡ laneIn control a i m
+  lane-kept : t ≡ false → m ≡ laneIn control a j m
   unfolding laneIn
   lane-kept e = simp (sym et ∙ e)
 
-  pub lane-yes : (at byte r : ℕ) (m′ p′ : List ℕ) → t ≡ true → at ≡ a .offset + i → byte ≡ laneByte (laneOf control i) (a .word) → fits s s (length p) ≡ true
-      → Pokes s at byte m p r m′ p′ → LaneIn s control a i m p r m′ p′
+  pub lane-yes : (at byte r : ℕ) (m′ p′ : List ℕ) → t ≡ true → at ≡ placeIn control a j → byte ≡ laneByte j (a .word) → fits s s (length p) ≡ true
+      → Pokes s at byte m p r m′ p′ → LaneIn s control a j m p r m′ p′
   lane-yes at byte r m′ p′ e ea eb f k =
-      let z : set m at byte ≡ laneIn control a i m = ap₂ (λ (x y : ℕ). set m x y) ea eb ∙ lane-stored e in
+      let z : set m at byte ≡ laneIn control a j m = ap₂ (λ (x y : ℕ). set m x y) ea eb ∙ lane-stored e in
       record {
         memory = k .memory ∙ z;
         drawn = subst (λ (q : List ℕ). Redraws true (wordOf s m) (wordOf s q) p r p′) z (redraws-by _ true _ _ p r p′ f (k .drawn));
       }
 
-  pub lane-no : t ≡ false → LaneIn s control a i m p 0 m p
-  lane-no e = record { memory = lane-kept e; drawn = still-redraws true _ _ p (λ j. ap (λ (q : List ℕ). wordOf s q j) (lane-kept e)) }
+  pub lane-no : t ≡ false → LaneIn s control a j m p 0 m p
+  lane-no e = record { memory = lane-kept e; drawn = still-redraws true _ _ p (λ i. ap (λ (q : List ℕ). wordOf s q i) (lane-kept e)) }
 
 pub lane-size : (s : State) (control : ℕ) (a : Access) (i : ℕ) (m p : List ℕ) (r : ℕ) (m′ p′ : List ℕ) → LaneIn s control a i m p r m′ p′ → length p′ ≡ length p
 lane-size s control a i m p r m′ p′ k = ap length (k .drawn .picture) ∙ redrawn-length _ _ p
 
 lane-length : (control : ℕ) (a : Access) (i : ℕ) (m : List ℕ) → length (laneIn control a i m) ≡ length m
 unfolding laneIn
-lane-length control a i m = pick-by (λ (q : List ℕ). length q ≡ length m) (bit (laneOf control i) (a .enables)) _ m (length-set m (a .offset + i) _) refl
+lane-length control a i m = pick-by (λ (q : List ℕ). length q ≡ length m) (bit i (a .enables)) _ m (length-set m (placeIn control a i) _) refl
 
-lane-other : (control : ℕ) (a : Access) (i : ℕ) (m : List ℕ) (k : ℕ) → (k ≡ a .offset + i → ⊥) → getD (laneIn control a i m) k 0 ≡ getD m k 0
+lane-other : (control : ℕ) (a : Access) (i : ℕ) (m : List ℕ) (k : ℕ) → (k ≡ placeIn control a i → ⊥) → getD (laneIn control a i m) k 0 ≡ getD m k 0
 unfolding laneIn
 lane-other control a i m k n =
-    pick-by (λ (q : List ℕ). getD q k 0 ≡ getD m k 0) (bit (laneOf control i) (a .enables)) _ m (getD-set-other m (a .offset + i) k _ 0 n) refl
+    pick-by (λ (q : List ℕ). getD q k 0 ≡ getD m k 0) (bit i (a .enables)) _ m (getD-set-other m (placeIn control a i) k _ 0 n) refl
 
 -- ---- two redraws in which no dot changes twice
 
@@ -125,48 +126,52 @@ word-by : (s : State) (m n : List ℕ) (j : ℕ) → length n ≡ length m → g
 unfolding wordOf wordAt laidAt underAt underByte beyond dotEntry
 word-by s m n j e h = simp (e, h)
 
+-- no two lanes have one byte
+lanes-apart : (control : ℕ) (a : Access) (i k : ℕ) → i < k → k < 4 → placeIn control a k ≡ placeIn control a i → ⊥
+lanes-apart control a i k h l e =
+    let z : laneOf control k ≡ laneOf control i = omega arith in
+    let y : k ≡ i = sym (lane-back control k l) ∙ ap (laneOf control) z ∙ lane-back control i (omega arith) in
+    omega arith
+
 -- the lanes below i are stored
-pub record Sofar (s : State) (a : Access) (i : ℕ) (m p : List ℕ) (r : ℕ) (m′ p′ : List ℕ) : Type 0 where
+pub record Sofar (s : State) (control : ℕ) (a : Access) (i : ℕ) (m p : List ℕ) (r : ℕ) (m′ p′ : List ℕ) : Type 0 where
   pub drawn : Redraws true (wordOf s m) (wordOf s m′) p r p′
   pub size : length m′ ≡ length m
-  pub rest : (k : ℕ) → a .offset + i ≤ k → getD m′ k 0 ≡ getD m k 0
+  pub rest : (k : ℕ) → i ≤ k → k < 4 → getD m′ (placeIn control a k) 0 ≡ getD m (placeIn control a k) 0
 
-pub sofar-none : (s : State) (a : Access) (m p : List ℕ) → Sofar s a 0 m p 0 m p
-sofar-none s a m p = record { drawn = still-redraws true _ _ p (λ j. refl); size = refl; rest = λ k h. refl }
+pub sofar-none : (s : State) (control : ℕ) (a : Access) (m p : List ℕ) → Sofar s control a 0 m p 0 m p
+sofar-none s control a m p = record { drawn = still-redraws true _ _ p (λ j. refl); size = refl; rest = λ k h l. refl }
 
-pub sofar-few : (s : State) (a : Access) (i : ℕ) (m p : List ℕ) (r : ℕ) (m′ p′ : List ℕ) → Sofar s a i m p r m′ p′ → r ≤ length p
-sofar-few s a i m p r m′ p′ k = subst (λ (x : ℕ). x ≤ length p) (sym (k .drawn .count)) (diffs-le p _)
+pub sofar-few : (s : State) (control : ℕ) (a : Access) (i : ℕ) (m p : List ℕ) (r : ℕ) (m′ p′ : List ℕ) → Sofar s control a i m p r m′ p′ → r ≤ length p
+sofar-few s control a i m p r m′ p′ k = subst (λ (x : ℕ). x ≤ length p) (sym (k .drawn .count)) (diffs-le p _)
 
-pub sofar-more : (s : State) (control : ℕ) (a : Access) (i : ℕ) (m p : List ℕ) (r : ℕ) (m′ p′ : List ℕ) (q : ℕ) (m″ p″ : List ℕ)
-    → Sofar s a i m p r m′ p′ → LaneIn s control a i m′ p′ q m″ p″ → Sofar s a (i + 1) m p (r + q) m″ p″
-sofar-more s control a i m p r m′ p′ q m″ p″ k l =
+pub sofar-more : (s : State) (control : ℕ) (a : Access) (i : ℕ) (m p : List ℕ) (r : ℕ) (m′ p′ : List ℕ) (q : ℕ) (m″ p″ : List ℕ) → i < 4
+    → Sofar s control a i m p r m′ p′ → LaneIn s control a i m′ p′ q m″ p″ → Sofar s control a (i + 1) m p (r + q) m″ p″
+sofar-more s control a i m p r m′ p′ q m″ p″ hi k l =
     let once : (j : ℕ) → (wordOf s m j ≡ wordOf s m′ j) ⊎ (wordOf s m′ j ≡ wordOf s (laneIn control a i m′) j) =
-    λ j. byTest (eqb (byteOf s j) (a .offset + i))
-    (λ e. inl (word-by s m m′ j (k .size) (k .rest (byteOf s j) (let z : byteOf s j ≡ a .offset + i = eqb-true (byteOf s j) (a .offset + i) e in subst (λ (x : ℕ). a .offset + i ≤ x) (sym z) (le-refl (a .offset + i))))))
-    (λ e. inr (word-by s m′ (laneIn control a i m′) j (lane-length control a i m′) (lane-other control a i m′ (byteOf s j) (eqb-false (byteOf s j) (a .offset + i) e)))) in
+    λ j. byTest (eqb (byteOf s j) (placeIn control a i))
+    (λ e. inl (word-by s m m′ j (k .size)
+    (subst (λ (x : ℕ). getD m′ x 0 ≡ getD m x 0) (sym (eqb-true (byteOf s j) (placeIn control a i) e)) (k .rest i (le-refl i) hi))))
+    (λ e. inr (word-by s m′ (laneIn control a i m′) j (lane-length control a i m′) (lane-other control a i m′ (byteOf s j) (eqb-false (byteOf s j) (placeIn control a i) e)))) in
     record {
       drawn =
           subst (λ (x : List ℕ). Redraws true (wordOf s m) (wordOf s x) p (r + q) p″) (sym (l .memory))
           (drawn-twice (wordOf s m) (wordOf s m′) (wordOf s (laneIn control a i m′)) p r p′ q p″ once (k .drawn) (l .drawn));
       size = ap length (l .memory) ∙ lane-length control a i m′ ∙ k .size;
-      rest = λ n h.
-          ap (λ (x : List ℕ). getD x n 0) (l .memory)
-          ∙ lane-other control a i m′ n (λ e. omega arith)
-          ∙ k .rest n (omega arith);
+      rest = λ n h b.
+          ap (λ (x : List ℕ). getD x (placeIn control a n) 0) (l .memory)
+          ∙ lane-other control a i m′ (placeIn control a n) (lanes-apart control a i n (omega arith) b)
+          ∙ k .rest n (omega arith) b;
     }
 
 -- ---- the four lanes
 
 put-step : (control : ℕ) (a : Access) (i : ℕ) (m : List ℕ) (l : List Put)
-    → putAll m (putAt control (atByte (a .offset)) (a .enables) (a .word) i l) ≡ putAll (laneIn control a i m) l
-unfolding putAt laneIn
-put-step control a i m l = both (bit (laneOf control i) (a .enables)) _ _ refl
-  where
-    both : (t : Bool) (x : Put) (n : List ℕ) → set m (x .at .0) (x .byte) ≡ n → putAll m (pick t (x ∷ l) l) ≡ putAll (pick t n m) l
-    both true x n e = ap (λ (y : List ℕ). putAll y l) e
-    both false x n e = refl
+    → putAll m (putLane control (atByte (a .offset)) (a .enables) (a .word) i l) ≡ putAll (laneIn control a i m) l
+unfolding putLane reach laneIn
+put-step control a i m l = byTest (bit i (a .enables)) (λ t. simp t) (λ t. simp t)
 
-pub four-puts : (control : ℕ) (a : Access) (m : List ℕ)
+four-puts : (control : ℕ) (a : Access) (m : List ℕ)
     → putAll m (putsOf control (atByte (a .offset)) (a .enables) (a .word)) ≡ laneIn control a 3 (laneIn control a 2 (laneIn control a 1 (laneIn control a 0 m)))
 unfolding putsOf
 four-puts control a m =
@@ -175,17 +180,18 @@ four-puts control a m =
 -- the lanes of one write, put together
 module _ {s : State} {control : ℕ} {a : Access} {m p : List ℕ} {r0 : ℕ} {m1 p1 : List ℕ} {r1 : ℕ} {m2 p2 : List ℕ} {r2 : ℕ} {m3 p3 : List ℕ} {r3 : ℕ} {m4 p4 : List ℕ}
     (l0 : LaneIn s control a 0 m p r0 m1 p1) (l1 : LaneIn s control a 1 m1 p1 r1 m2 p2) (l2 : LaneIn s control a 2 m2 p2 r2 m3 p3) (l3 : LaneIn s control a 3 m3 p3 r3 m4 p4) where
-  together : Sofar s a 4 m p (r0 + r1 + r2 + r3) m4 p4
+  together : Sofar s control a 4 m p (r0 + r1 + r2 + r3) m4 p4
   together =
-      let k1 : Sofar s a 1 m p r0 m1 p1 =
-      subst (λ (x : ℕ). Sofar s a 1 m p x m1 p1) (let e : 0 + r0 ≡ r0 = omega arith in e) (sofar-more s control a 0 m p 0 m p r0 m1 p1 (sofar-none s a m p) l0) in
-      let k2 = sofar-more s control a 1 m p r0 m1 p1 r1 m2 p2 k1 l1 in
-      let k3 = sofar-more s control a 2 m p (r0 + r1) m2 p2 r2 m3 p3 k2 l2 in
-      sofar-more s control a 3 m p (r0 + r1 + r2) m3 p3 r3 m4 p4 k3 l3
+      let k1 : Sofar s control a 1 m p r0 m1 p1 =
+      subst (λ (x : ℕ). Sofar s control a 1 m p x m1 p1) (let e : 0 + r0 ≡ r0 = omega arith in e)
+      (sofar-more s control a 0 m p 0 m p r0 m1 p1 (omega arith) (sofar-none s control a m p) l0) in
+      let k2 = sofar-more s control a 1 m p r0 m1 p1 r1 m2 p2 (omega arith) k1 l1 in
+      let k3 = sofar-more s control a 2 m p (r0 + r1) m2 p2 r2 m3 p3 (omega arith) k2 l2 in
+      sofar-more s control a 3 m p (r0 + r1 + r2) m3 p3 r3 m4 p4 (omega arith) k3 l3
 
   pub window-small : fits s s (length p) ≡ true → r0 + r1 + r2 + r3 ≤ 0x100000
   window-small f =
-      omega (arith, sofar-few s a 4 m p (r0 + r1 + r2 + r3) m4 p4 together, fit-size s s (length p) f, mul-comm (s .width) (s .height), panel-product (s .width) (s .height) (fit-panel s s (length p) f))
+      omega (arith, sofar-few s control a 4 m p (r0 + r1 + r2 + r3) m4 p4 together, fit-size s s (length p) f, mul-comm (s .width) (s .height), panel-product (s .width) (s .height) (fit-panel s s (length p) f))
 
   pub window-in : WindowIn s control a m p (r0 + r1 + r2 + r3) m4 p4
   window-in =

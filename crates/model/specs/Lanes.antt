@@ -1,5 +1,5 @@
 -- One lane of a write through an aperture, and the four together.
-use Prim.Native.Nat.{ℕ, _+_}
+use Prim.Native.Nat.{ℕ}
 use mathlib.Core.Bool.{true}
 use mathlib.Core.List.{List}
 use mathlib.Core.Path.{_≡_}
@@ -10,18 +10,21 @@ use Rattle.bits.specs.Word.{laneByte}
 use Rattle.chip.specs.declared.State.{State}
 use Rattle.chip.specs.declared.Access.{Access}
 use Rattle.chip.specs.Units.{atByte}
-use Rattle.chip.specs.Aperture.{laneOf, putsOf, putAll}
+use Rattle.chip.specs.Aperture.{laneOf, byteFrom, putsOf, putAll}
 use Rattle.chip.specs.Picture.{wordOf}
 use Rattle.picture.specs.Draw.{Redraws}
 
--- memory after lane i: byte o + i takes its lane's byte where that lane is enabled
-unfoldable pub laneIn : ℕ → Access → ℕ → List ℕ → List ℕ
-laneIn control a i m =
-    pick (bit (laneOf control i) (a .enables)) (set m (a .offset + i) (laneByte (laneOf control i) (a .word))) m
+-- the byte of lane j
+abbrev pub placeIn : ℕ → Access → ℕ → ℕ
+placeIn control a j = byteFrom (atByte (a .offset)) (laneOf control j) .0
 
-pub record LaneIn (s : State) (control : ℕ) (a : Access) (i : ℕ) (m p : List ℕ) (r : ℕ) (m′ p′ : List ℕ) : Type 0 where
-  pub memory : m′ ≡ laneIn control a i m
-  pub drawn : Redraws true (wordOf s m) (wordOf s (laneIn control a i m)) p r p′
+-- memory after lane j: its byte takes the lane's where the lane is enabled
+unfoldable pub laneIn : ℕ → Access → ℕ → List ℕ → List ℕ
+laneIn control a j m = pick (bit j (a .enables)) (set m (placeIn control a j) (laneByte j (a .word))) m
+
+pub record LaneIn (s : State) (control : ℕ) (a : Access) (j : ℕ) (m p : List ℕ) (r : ℕ) (m′ p′ : List ℕ) : Type 0 where
+  pub memory : m′ ≡ laneIn control a j m
+  pub drawn : Redraws true (wordOf s m) (wordOf s (laneIn control a j m)) p r p′
 
 -- the four lanes of a write: memory takes what the definition stores, and the dots that show it are redrawn
 pub record WindowIn (s : State) (control : ℕ) (a : Access) (m p : List ℕ) (r : ℕ) (m′ p′ : List ℕ) : Type 0 where

@@ -37,10 +37,11 @@ fn register_status(s: State, a: Access, i: usize) -> u32
 fn window_status(s: State, a: Access, i: usize) -> u32
     ensures { λ r. ⌜ r ≡ firstOf (placeLines (portAt s a (Window i)) (isWrite a)) ⌝ }
 {
-    if !aperture::reaches_memory(s.fitted, a.offset) {
+    let control = held(&s.values, i);
+    if !aperture::reaches_memory(s.fitted, control, a.offset) {
         return 5;
     }
-    if !aperture::mode_served(held(&s.values, i)) {
+    if !aperture::mode_served(control) {
         return 7;
     }
     0

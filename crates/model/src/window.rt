@@ -12,25 +12,21 @@ use chip::Access;
 use chip::Answer;
 use chip::State;
 
+// Lane j, where it is enabled: its byte, and the dots that show it.
 fn write_lane(
     s: State,
     control: u32,
     a: Access,
-    i: u32,
+    j: u32,
     memory: &mut [u8],
     picture: &mut [u32],
 ) -> u32
     requires { ⌜ fits s s (length (now picture)) ≡ true ⌝ }
-    ensures { λ r. ⌜ LaneIn s control a i (now (memory .entry)) (now (picture .entry)) r (now (memory .exit)) (now (picture .exit)) ⌝ }
+    ensures { λ r. ⌜ LaneIn s control a j (now (memory .entry)) (now (picture .entry)) r (now (memory .exit)) (now (picture .exit)) ⌝ }
 {
-    if aperture::lane_put(control, a.enables, i) {
-        return picture::poke::poke(
-            s,
-            memory,
-            picture,
-            (a.offset as u64) + (i as u64),
-            aperture::lane_value(control, a.word, i),
-        );
+    if bits::bit_of(j, a.enables) {
+        let at = aperture::lane_place(control, a.offset, j);
+        return picture::poke::poke(s, memory, picture, at.0, bits::lane_byte(j, a.word));
     }
     0
 }

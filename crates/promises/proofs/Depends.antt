@@ -13,7 +13,7 @@ use Rattle.bits.proofs.Cases.{byTest, pick-same}
 use Rattle.chip.specs.declared.State.{State}
 use Rattle.chip.specs.declared.Access.{Access}
 use Rattle.chip.specs.declared.Place.the-variants.{Window}
-use Rattle.chip.specs.Aperture.{reachesMemory, served, wordFrom, putsOf, putAll}
+use Rattle.chip.specs.Aperture.{span, reachesMemory, served, wordFrom, putsOf, putAll}
 use Rattle.chip.specs.Units.{atByte}
 use Rattle.chip.specs.Picture.{baseOf, strideOf, rowStart, dotByte, maskOf, notIndexed, unplaced, beyond, dotEntry, underByte, underAt, laidAt, wordAt}
 use Rattle.chip.specs.Place.{placeOf}
@@ -39,7 +39,7 @@ windowStatus : ℕ → ℕ → Access → ℕ
 windowStatus ml control a =
     firstOf
     (line 3 (not (leb (a .target) 3 && leb (a .enables) 15)) ∷ line 4 (not (eqb (a .offset % 4) 0))
-    ∷ line 5 (not (reachesMemory ml (atByte (a .offset)))) ∷ line 7 (not (served control)) ∷ [])
+    ∷ line 5 (not (reachesMemory ml (span control (atByte (a .offset))))) ∷ line 7 (not (served control)) ∷ [])
 
 window-status : (x : World) (a : Access) (i : ℕ) → Good x → placeOf (x .state) a ≡ Window i
     → statusAt x a ≡ windowStatus (length (x .memory)) (getD (x .state .values) i 0) a

@@ -11,6 +11,7 @@ pub mod Contents
 pub mod Shown
 pub mod Address
 pub mod ThreeWrites
+pub mod Pokes
 pub mod Only
 pub mod Pictures
 pub mod Answers

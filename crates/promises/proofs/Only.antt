@@ -1,17 +1,17 @@
 -- An access alters only what it may: a bit, an entry, a byte that it does not reach is as before.
 -- What an access stores, part by part, puts nothing where the access does not reach. Assumes nothing.
-use Prim.Native.Nat.{ℕ, _+_, _-_, _*_, _/_, _≤_, _<_}
+use Prim.Native.Nat.{ℕ, _+_, _*_, _/_, _<_}
 use mathlib.Core.Bool.{Bool, true, false, not, _&&_, _||_, Bool·beq}
 use mathlib.Core.List.{List, []}
 use mathlib.Core.Option.{Option, none, some, Option·getD}
 use mathlib.Core.Path.{_≡_, refl, sym, ap, ap₂, _∙_, subst}
 use native.Mathlib.Omega.{arith}
-use borrow.Author.Tests.{eqb-true, leb-true}
-use lib.Dec.{eqb}
-use lib.ListN.{getD, length}
+use borrow.Author.Tests.{eqb-true, ltb-true, ltb-false}
+use lib.Dec.{eqb, ltb}
+use lib.ListN.{getD, length, List·getD-eq-default}
 use Rattle.bits.specs.Choose.{pick, everyTo}
 use Rattle.bits.specs.Bit.{bit}
-use Rattle.bits.specs.Word.{lanesOf, laneByte}
+use Rattle.bits.specs.Word.{lanesOf}
 use Rattle.bits.proofs.Cases.{byTest, pick-when}
 use Rattle.bits.proofs.Bools.{and-first, and-second, and-both, clash, every-at}
 use Rattle.bits.proofs.Words.{clear-not, bit-inside, bit-joined, bit-outside, lane-bit, beq-true}
@@ -19,34 +19,31 @@ use Rattle.chip.specs.declared.State.{State}
 use Rattle.chip.specs.declared.Access.{Access}
 use Rattle.chip.specs.declared.Colour.{Colour}
 use Rattle.chip.specs.declared.Dac.{Dac}
-use Rattle.chip.specs.declared.Place.{Place}
-use Rattle.chip.specs.declared.Place.the-variants.{Window}
 use Rattle.chip.specs.Row.{Row}
 use Rattle.chip.specs.Bank.{bankRow, subsystem}
 use Rattle.chip.specs.Subsystem.{halvesOf, halfBits, onceMoved, storedBits}
 use Rattle.chip.specs.Register.{mayChange, movedBits}
 use Rattle.chip.specs.Palette.{entryCount, entryOf}
 use Rattle.chip.specs.Dac.{Paint, bothStaged, completedBy}
-use Rattle.chip.specs.Aperture.{Put, laneOf, reachesMemory, putAll}
-use Rattle.chip.specs.Patch.{Store, memoryWith}
+use Rattle.chip.specs.Aperture.{Put}
+use Rattle.chip.specs.Patch.{Store}
 use Rattle.chip.specs.Place.{placeOf}
-use Rattle.chip.specs.Port.{rowPatch, keptFrom, pokePatch, portAt}
-use Rattle.chip.specs.Refusal.{isWrite, portOf}
+use Rattle.chip.specs.Port.{rowPatch, pokePatch}
+use Rattle.chip.specs.Refusal.{isWrite}
 use Rattle.chip.specs.Trace.{World, after}
-use Rattle.chip.proofs.Poked.{reached, byte-after}
 use Rattle.promises.specs.Good.{Good, statusAt}
 use Rattle.promises.specs.Reach.{reachAt}
-use Rattle.promises.specs.History.{accepted, patchAt, Spot, Real, putsBit, putsEntry, isData, isAim}
+use Rattle.promises.specs.History.{accepted, patchAt, Spot, Real, putsBit, lastPoke, putsEntry, isData, isAim}
 use Rattle.promises.specs.Frame.{bitReach, rowReach, reaches, SameBit, turns, completes, windowReach, pokes}
-use Rattle.promises.specs.Origin.{entryPut, dacPut}
+use Rattle.promises.specs.Origin.{bytePut, entryPut}
 use Rattle.promises.proofs.Sane.{sane}
 use Rattle.promises.proofs.Moved.{half-bit, half-lt, halves-lt}
-use Rattle.promises.proofs.Does.{storeFrom, putsFrom, stepped, writes, does}
-use Rattle.promises.proofs.Sites.{names}
+use Rattle.promises.proofs.Does.{storeFrom, putsFrom, writes, does}
 use Rattle.promises.proofs.Keeps.{once-lt-four}
-use Rattle.promises.proofs.Worlds.{after-memory}
-use Rattle.promises.proofs.Contents.{same-step, entry-step}
-use Rattle.promises.proofs.Shown.{enables-lt, found}
+use Rattle.promises.proofs.Pokes.{none-poked}
+use Rattle.promises.proofs.Worlds.{memory-length}
+use Rattle.promises.proofs.Contents.{same-step, byte-step, entry-step}
+use Rattle.promises.proofs.Shown.{enables-lt}
 use Rattle.promises.proofs.Address.{dac-step}
 
 -- ---- an access puts nothing into a bit that it does not reach
@@ -193,29 +190,26 @@ same-dac x a q =
 
 -- ---- memory
 
--- an accepted access through a window reaches memory
-pub window-fits : (x : World) (a : Access) (i : ℕ) → Good x → statusAt x a ≡ 0 → placeOf (x .state) a ≡ Window i → a .offset + 4 ≤ length (x .memory)
-unfolding portOf portAt reachesMemory
-window-fits x a i g d e =
-    let z = subst (λ (p : Place). portAt (x .state) a p .present ≡ true) e (found (x .state) _ _ a d) in
-    omega (arith, leb-true (a .offset + 4) (x .state .fitted) z, g .memory)
+-- a byte into which an access puts nothing is as before
+pub still-byte : (x : World) (a : Access) (k : ℕ) → bytePut k x a ≡ none → getD (after x a .memory) k 0 ≡ getD (x .memory) k 0
+still-byte x a k e =
+    byTest (ltb k (length (x .memory)))
+    (λ q. byte-step k x a (ltb-true k (length (x .memory)) q) ∙ ap (λ (o : Option ℕ). Option·getD o (getD (x .memory) k 0)) e)
+    (λ q. let h = ltb-false k (length (x .memory)) q in
+    List·getD-eq-default (after x a .memory) 0 (omega (arith, memory-length x a)) ∙ sym (List·getD-eq-default (x .memory) 0 h))
 
-window-quiet : (x : World) (a : Access) (k : ℕ) (i : Option ℕ) → Good x → statusAt x a ≡ 0 → reachAt (placeOf (x .state) a) .window ≡ i
-    → windowReach (x .state) a i k ≡ false → getD (putAll (x .memory) (putsFrom (x .state) a i)) k 0 ≡ getD (x .memory) k 0
-unfolding windowReach pokePatch reached
-window-quiet x a k none g d e q = refl
-window-quiet x a k (some i) g d e q =
-    byte-after (getD (x .state .values) i 0) (a .offset) (a .enables) (a .word) (x .memory)
-    (window-fits x a i g d (names (placeOf (x .state) a) .window i e)) k
-    ∙ ap (λ (t : Bool). pick t (laneByte (laneOf (getD (x .state .values) i 0) (k - a .offset)) (a .word)) (getD (x .memory) k 0)) q
+-- what an access through a window puts into byte k
+window-quiet : (s : State) (a : Access) (k : ℕ) (i : Option ℕ) → windowReach s a i k ≡ false → lastPoke k (putsFrom s a i) ≡ none
+unfolding windowReach pokePatch
+window-quiet s a k none q = refl
+window-quiet s a k (some i) q = none-poked (getD (s .values) i 0) a k q
 
 -- a memory byte that an access does not reach is as before
-pub same-byte : (x : World) (a : Access) (k : ℕ) → Good x → pokes (x .state) a k ≡ false → getD (after x a .memory) k 0 ≡ getD (x .memory) k 0
-unfolding memoryWith pokes
-same-byte x a k g q =
-    ap (λ (m : List ℕ). getD m k 0) (after-memory x a)
-    ∙ ap (λ (l : List Put). getD (putAll (x .memory) l) k 0) (does x a .puts)
-    ∙ pick-when (λ (l : List Put). getD (putAll (x .memory) l) k 0 ≡ getD (x .memory) k 0) (writes x a) _ []
-    (λ t. window-quiet x a k (reachAt (placeOf (x .state) a) .window) g (done x a (and-first (accepted x a) (isWrite a) t)) refl
-    (simp (and-second (accepted x a) (isWrite a) t) at q))
-    (λ t. refl)
+pub same-byte : (x : World) (a : Access) (k : ℕ) → pokes (x .state) a k ≡ false → getD (after x a .memory) k 0 ≡ getD (x .memory) k 0
+unfolding pokes
+same-byte x a k q =
+    still-byte x a k
+    (ap (lastPoke k) (does x a .puts)
+    ∙ pick-when (λ (l : List Put). lastPoke k l ≡ none) (writes x a) _ []
+    (λ t. window-quiet (x .state) a k (reachAt (placeOf (x .state) a) .window) (simp (and-second (accepted x a) (isWrite a) t) at q))
+    (λ t. refl))

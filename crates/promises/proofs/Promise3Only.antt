@@ -29,7 +29,7 @@ module _ (x : World) (a : Access) (g : Good x) where
 
   -- a memory byte that it does not reach is as before
   pub bytes-stay : (k : ℕ) → pokes (x .state) a k ≡ false → getD (after x a .memory) k 0 ≡ getD (x .memory) k 0
-  bytes-stay k = same-byte x a k g
+  bytes-stay k = same-byte x a k
 
   -- the address, the component and the stage are as before, unless it is an access to them
   pub pointer-stays : turns (x .state) a ≡ false → after x a .state .dac ≡ x .state .dac

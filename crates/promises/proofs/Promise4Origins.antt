@@ -18,7 +18,8 @@ use Rattle.chip.specs.declared.Place.the-variants.{Register, Address, PaletteDa
 use Rattle.chip.specs.Bank.{indirectAt}
 use Rattle.chip.specs.Palette.{entryCount, emptyPalette, entryOf}
 use Rattle.chip.specs.Dac.{resetDac}
-use Rattle.chip.specs.Aperture.{laneOf}
+use Rattle.chip.specs.Units.{atByte}
+use Rattle.chip.specs.Aperture.{readLane}
 use Rattle.chip.specs.State.{resetState}
 use Rattle.chip.specs.Place.{placeOf}
 use Rattle.chip.specs.Port.{wide}
@@ -141,10 +142,12 @@ module _ (w h : ℕ) (m p : List ℕ) (o : Openable w h m p) (l : List Access) w
             rest = f .rest;
             split = f .split;
             accepted = z .accepted;
-            reached = z .reached;
+            write = z .write;
             window = z .window;
             through = z .through;
-            value = z .value;
+            lane = z .put .lane;
+            reached = z .put .reached;
+            value = z .put .value;
             silent = subst (λ (y : World). lastPut after (bytePut k) (after y (f .by)) (f .rest) ≡ none) b (f .silent);
           })
       go (inr n) = inr (record { silent = n .silent; value = sym (n .same) ∙ same })
@@ -229,6 +232,6 @@ module _ (w h : ℕ) (m p : List ℕ) (o : Openable w h m p) (l : List Access) w
     pub memory-read : (i : ℕ) → placeOf (run (opened w h m p) l .state) a ≡ Window i
         → shows (step (run (opened w h m p) l) a .answer) b
         ≡ pick (bit (b / 8) (a .enables))
-        (some (bit (b % 8) (getD (run (opened w h m p) l .memory) (a .offset + laneOf (getD (run (opened w h m p) l .state .values) i 0) (b / 8)) 0)))
+        (some (bit (b % 8) (readLane (getD (run (opened w h m p) l .state .values) i 0) (run (opened w h m p) l .memory) (atByte (a .offset)) (b / 8))))
         none
     memory-read i e = shows-memory (run (opened w h m p) l) a b q hb good i e

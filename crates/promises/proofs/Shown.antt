@@ -22,7 +22,7 @@ use Rattle.chip.specs.declared.Seen.{Seen}
 use Rattle.chip.specs.declared.Place.{Place}
 use Rattle.chip.specs.declared.Place.the-variants.{Register, Address, PaletteData, Window, Blank}
 use Rattle.chip.specs.Palette.{entryOf}
-use Rattle.chip.specs.Aperture.{served, laneOf, wordFrom}
+use Rattle.chip.specs.Aperture.{readLane, wordFrom}
 use Rattle.chip.specs.Units.{atByte}
 use Rattle.chip.specs.Place.{placeOf}
 use Rattle.chip.specs.Port.{seenPart, knownIn, wordIn, wide, portAt}
@@ -30,7 +30,7 @@ use Rattle.chip.specs.Refusal.{isWrite, portOf, laterLines, accessLines, status
 use Rattle.chip.specs.Step.{settled, seenBy, doneBy, givenBy, stepOf}
 use Rattle.chip.specs.Trace.{World, step}
 use Rattle.chip.proofs.Lines.{none-holds}
-use Rattle.chip.proofs.Lent.{lane-read, served-swap}
+use Rattle.chip.proofs.Lent.{lane-read}
 use Rattle.promises.specs.Good.{Good, statusAt}
 use Rattle.promises.specs.History.{seenBit, shows, partBit, spot, holds}
 
@@ -40,7 +40,7 @@ pub record Accepted (x : World) (a : Access) : Type 0 where
   pub read : isWrite a ≡ false
   pub done : statusAt x a ≡ 0
 
--- its enables name four lanes, and its mode is served
+-- its enables name four lanes
 pub enables-lt : (s : State) (ml pl : ℕ) (a : Access) → statusOf s ml pl a ≡ 0 → a .enables < 16
 unfolding statusOf accessLines laterLines
 enables-lt s ml pl a e =
@@ -50,10 +50,6 @@ enables-lt s ml pl a e =
           (and-second (leb (a .target) 3) (leb (a .enables) 15)
           (not-false (leb (a .target) 3 && leb (a .enables) 15) (none-holds (accessLines s ml pl a) refl e 2))),
     )
-
-served-here : (s : State) (ml pl : ℕ) (a : Access) → statusOf s ml pl a ≡ 0 → portOf s a .served ≡ true
-unfolding statusOf accessLines laterLines
-served-here s ml pl a e = not-false (portOf s a .served) (none-holds (accessLines s ml pl a) refl e 6)
 
 -- an accepted access finds something at its place
 pub found : (s : State) (ml pl : ℕ) (a : Access) → statusOf s ml pl a ≡ 0 → portOf s a .present ≡ true
@@ -155,20 +151,14 @@ module _ (x : World) (a : Access) (b : ℕ) (q : Accepted x a) (hb : b < 32) whe
       part none = none-part b
       part (some c) = refl
 
-  window-served : (i : ℕ) → placeOf (x .state) a ≡ Window i → served (getD (x .state .values) i 0) ≡ true
-  unfolding portAt portOf
-  window-served i e = subst (λ (p : Place). portAt (x .state) a p .served ≡ true) e (served-here (x .state) _ _ a (q .done))
-
   -- memory: the bit of the byte that exchanges with the bit's lane
   pub shows-memory : Good x → (i : ℕ) → placeOf (x .state) a ≡ Window i
       → shows (step x a .answer) b
-      ≡ pick (bit (b / 8) (a .enables)) (some (bit (b % 8) (getD (x .memory) (a .offset + laneOf (getD (x .state .values) i 0) (b / 8)) 0))) none
+      ≡ pick (bit (b / 8) (a .enables)) (some (bit (b % 8) (readLane (getD (x .state .values) i 0) (x .memory) (atByte (a .offset)) (b / 8)))) none
   unfolding portAt seenBit
   shows-memory g i e =
       at-place (Window i) _ e
       (simp (full-bit b hb)
       (ap some
       (bit-lane b (wordFrom (getD (x .state .values) i 0) (x .memory) (atByte (a .offset)))
-      ∙ ap (bit (b % 8))
-      (lane-read (getD (x .state .values) i 0) (x .memory) (a .offset) (b / 8)
-      (served-swap (getD (x .state .values) i 0) (window-served i e)) (g .bytes) (omega arith)))))
+      ∙ ap (bit (b % 8)) (lane-read (getD (x .state .values) i 0) (x .memory) (atByte (a .offset)) (b / 8) (g .bytes) (omega arith)))))

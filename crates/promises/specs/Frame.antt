@@ -1,18 +1,21 @@
 -- What an access may alter, in the words of 01: a bit, an entry, a byte that it does not reach stays.
-use Prim.Native.Nat.{ℕ, _+_, _-_, _*_, _/_}
-use mathlib.Core.Bool.{Bool, false, not, _&&_, _||_}
+use Prim.Native.Nat.{ℕ, _+_, _*_, _/_}
+use mathlib.Core.Bool.{Bool, true, false, not, _&&_, _||_}
+use mathlib.Core.List.{List, [], _∷_}
 use mathlib.Core.Option.{Option, none, some}
 use mathlib.Core.Path.{_≡_}
-use lib.Dec.{eqb, leb, ltb}
+use lib.Dec.{eqb}
 use lib.ListN.{getD}
-use Rattle.bits.specs.Choose.{pick}
+use Rattle.bits.specs.Choose.{pick, someTo}
 use Rattle.bits.specs.Bit.{bit}
 use Rattle.chip.specs.declared.State.{State}
 use Rattle.chip.specs.declared.Access.{Access}
+use Rattle.chip.specs.declared.Bytes.{Bytes}
 use Rattle.chip.specs.Bank.{bankRow, subsystem}
 use Rattle.chip.specs.Register.{mayChange}
 use Rattle.chip.specs.Dac.{bothStaged}
-use Rattle.chip.specs.Aperture.{laneOf}
+use Rattle.chip.specs.Units.{atByte}
+use Rattle.chip.specs.Aperture.{reach}
 use Rattle.chip.specs.Place.{placeOf}
 use Rattle.chip.specs.Refusal.{isWrite}
 use Rattle.promises.specs.Reach.{reachAt}
@@ -49,11 +52,19 @@ completes s a e =
     ((isWrite a && reachAt (placeOf s a) .paints) && bit 0 (a .enables))
     && ((eqb (s .dac .component) 2 && bothStaged (s .dac)) && eqb (s .dac .address) e)
 
--- through an aperture byte k is reached, with the lane that k exchanges with
+-- byte k is one of some
+abbrev pub among : ℕ → List Bytes → Bool
+among k [] = false
+among k (b ∷ l) = eqb (b .0) k || among k l
+
+-- an access through the aperture whose control register holds c writes byte k by lane j: the lane is enabled and reaches it
+unfoldable pub laneReach : ℕ → Access → ℕ → ℕ → Bool
+laneReach c a k j = bit j (a .enables) && among k (reach c true [] (atByte (a .offset)) j)
+
+-- .. by any of its lanes, if it is an aperture
 unfoldable pub windowReach : State → Access → Option ℕ → ℕ → Bool
 windowReach s a none k = false
-windowReach s a (some i) k =
-    (leb (a .offset) k && ltb k (a .offset + 4)) && bit (laneOf (getD (s .values) i 0) (k - a .offset)) (a .enables)
+windowReach s a (some i) k = someTo (laneReach (getD (s .values) i 0) a k) 4
 
 -- a write through an aperture that reaches byte k: what may alter the byte
 unfoldable pub pokes : State → Access → ℕ → Bool

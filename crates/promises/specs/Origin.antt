@@ -1,5 +1,5 @@
 -- Where something known comes from: the access of a list that stored it, with nothing after it that stores there, or the opening.
-use Prim.Native.Nat.{ℕ, _+_, _-_, _/_, _%_}
+use Prim.Native.Nat.{ℕ, _+_, _/_, _%_}
 use mathlib.Core.Bool.{Bool, true, not, _&&_}
 use mathlib.Core.List.{List, _∷_, _++_}
 use mathlib.Core.Option.{Option, none, some, Option·getD}
@@ -13,7 +13,6 @@ use Rattle.chip.specs.declared.Dac.{Dac}
 use Rattle.chip.specs.declared.Place.the-variants.{Address, PaletteData, Window}
 use Rattle.chip.specs.Bank.{bankRow}
 use Rattle.chip.specs.Palette.{keptAs}
-use Rattle.chip.specs.Aperture.{laneOf}
 use Rattle.chip.specs.Place.{placeOf}
 use Rattle.chip.specs.Port.{wide}
 use Rattle.chip.specs.Refusal.{isWrite}
@@ -21,7 +20,7 @@ use Rattle.chip.specs.Trace.{World, after, run}
 use Rattle.promises.specs.Good.{statusAt}
 use Rattle.promises.specs.Along.{lastPut}
 use Rattle.promises.specs.History.{patchAt, Spot, stated, putsBit, lastPoke, putsEntry, aimPut, dataSteps}
-use Rattle.promises.specs.Frame.{reaches, pokes}
+use Rattle.promises.specs.Frame.{reaches, laneReach}
 
 -- what access a, made at x, puts where
 abbrev pub bitPut : Spot → World → Access → Option (Option Bool)
@@ -65,17 +64,19 @@ pub record BitStated (x : World) (l : List Access) (q : Spot) (v : Bool) : Type 
 
 -- ---- a memory byte
 
--- an accepted write of the list reached byte k through an aperture and brought v, and no access after it reaches the byte
+-- an accepted write of the list reached byte k through an aperture, by a lane of its that brought v, and no access after it reaches the byte
 pub record ByteStored (x : World) (l : List Access) (k v : ℕ) : Type 0 where
   pub before : List Access
   pub by : Access
   pub rest : List Access
   pub split : l ≡ before ++ by ∷ rest
   pub accepted : statusAt (run x before) by ≡ 0
-  pub reached : pokes (run x before .state) by k ≡ true
+  pub write : isWrite by ≡ true
   pub window : ℕ
   pub through : placeOf (run x before .state) by ≡ Window window
-  pub value : v ≡ laneByte (laneOf (getD (run x before .state .values) window 0) (k - by .offset)) (by .word)
+  pub lane : ℕ
+  pub reached : laneReach (getD (run x before .state .values) window 0) by k lane ≡ true
+  pub value : v ≡ laneByte lane (by .word)
   pub silent : lastPut after (bytePut k) (after (run x before) by) rest ≡ none
 
 -- no access of the list reaches the byte, and it was lent as v

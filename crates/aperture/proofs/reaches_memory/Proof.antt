@@ -1,6 +1,6 @@
 -- `aperture::reaches_memory` is the definition, and the sum does not wrap. Assumes nothing.
 use mathlib.Core.Path.{refl}
-use Rattle.chip.specs.Aperture.{reachesMemory}
+use Rattle.chip.specs.Aperture.{span, reachesMemory}
 use borrow.Author.Needs.{needs}
 use Rattle.aperture.proofs.reaches_memory.Statement.{statement}
 use Rattle.aperture.proofs.reaches_memory.Tie as tie
@@ -9,7 +9,7 @@ add-result : tie.Need-add-result
 add-result c = search needs
 
 returns : tie.Need-returns
-unfolding reachesMemory
+unfolding span reachesMemory
 returns c = refl
 
 pub reaches-memory-spec : {M : Type 1} → statement M

@@ -1,22 +1,20 @@
--- `model::window::write_lane` stores one lane and draws what it shows.
+-- `model::window::write_lane` stores one lane and draws what shows it.
 -- The two branches. Assumes nothing.
-use mathlib.Core.Path.{refl}
-use borrow.Author.Needs.{needs}
+use mathlib.Core.Path.{ap}
+use Rattle.chip.specs.declared.Bytes.{Bytes}
 use Rattle.model.proofs.WindowLaws.{lane-yes, lane-no}
+use borrow.Author.Needs.{needs}
 use Rattle.model.proofs.window.write_lane.Statement.{statement}
 use Rattle.model.proofs.window.write_lane.Tie as tie
 
-lane-put-requires : tie.Need-lane-put-requires
-lane-put-requires c κs = search needs
+bit-of-requires : tie.Need-bit-of-requires
+bit-of-requires c κs = search needs
 
-cast-poke : tie.Need-cast-poke
-cast-poke c = search needs
+lane-place-requires : tie.Need-lane-place-requires
+lane-place-requires c κs = search needs
 
-add-poke : tie.Need-add-poke
-add-poke c = search needs
-
-lane-value-requires : tie.Need-lane-value-requires
-lane-value-requires c κs = search needs
+lane-byte-requires : tie.Need-lane-byte-requires
+lane-byte-requires c κs = search needs
 
 poke-requires : tie.Need-poke-requires
 poke-requires c κs = search needs
@@ -28,19 +26,18 @@ same-length-2 : tie.Need-same-length-2
 same-length-2 c = search needs
 
 returns : tie.Need-returns
-returns c = lane-yes _ _ _ _ _ _ _ (c .before .before .before .before .before .before .before .before .before .before .lane-put .ensures) _ _ _ _ _ (c .before .before .before .before .before .before .before .before .before .if1 .taken) refl (c .before .before .before .before .before .lane-value .ensures) (c .before .before .before .before .before .before .before .before .before .before .before .before .before .pre) (c .before .before .before .before .poke .ensures)
+returns c = lane-yes _ _ _ _ _ _ _ (c .before .before .before .before .before .before .before .before .before .before .bit-of .ensures) _ _ _ _ _ (c .before .before .before .before .before .before .before .before .before .if1 .taken) (ap (λ (x : Bytes). x .0) (c .before .before .before .before .before .before .before .before .lane-place .ensures)) (c .before .before .before .before .before .lane-byte .ensures) (c .before .before .before .before .before .before .before .before .before .before .before .before .before .pre) (c .before .before .before .before .poke .ensures)
 
 returns-2 : tie.Need-returns-2
-returns-2 c = lane-no _ _ _ _ _ _ _ (c .before .lane-put .ensures) (c .if1 .left)
+returns-2 c = lane-no _ _ _ _ _ _ _ (c .before .bit-of .ensures) (c .if1 .left)
 
 pub write-lane-spec : {M : Type 1} → statement M
 write-lane-spec =
     tie.close
     (tie.spec
-    lane-put-requires
-    cast-poke
-    add-poke
-    lane-value-requires
+    bit-of-requires
+    lane-place-requires
+    lane-byte-requires
     poke-requires
     same-length
     same-length-2

@@ -1,4 +1,4 @@
-// Processor time, and whether standard input has a byte.
+// Processor time.
 
 // Modulo 2^32; 0 for a clock that fails.
 fn unsigned(t: i64) -> u32 {
@@ -11,10 +11,4 @@ fn unsigned(t: i64) -> u32 {
 // Processor time in microseconds, modulo 2^32.
 pub fn microseconds() -> u32 {
     unsigned(libc::clock())
-}
-
-// Whether standard input has a byte, which is read.
-pub fn has_input() -> bool {
-    let mut byte = [0u8; 1];
-    libc::read(0, &mut byte) > 0
 }

@@ -1,5 +1,11 @@
 // The programs over a panel of any size: its lines in the trace's form or in words, and its picture as a file.
+use crate::complain::complain;
+use crate::complain::complain_why;
 use crate::ppm::write_picture;
+use crate::program::begin;
+use crate::program::end;
+use crate::program::has_argument;
+use crate::program::is_argument;
 use crate::say::say;
 use crate::say::say_number;
 use crate::session::run;
@@ -10,10 +16,6 @@ use text::panel::decimal;
 use text::panel::size;
 ghost use Prim.Native.Nat.{_≤_};
 ghost use lib.ListN.{length};
-
-fn complain(text: &[u8]) {
-    io::write_all(2, text);
-}
 
 fn size_argument() -> Size {
     let mut room = io::buffer();
@@ -30,31 +32,27 @@ fn bytes_argument() -> Field {
 // No descriptor: nobody asked for a picture.
 const NO_FILE: i32 = -2;
 
-// A dash stands for standard output, where the picture follows the lines.
-fn is_dash(path: &[u8]) -> bool {
-    if path.len() != 1 {
-        return false;
-    }
-    path[0] == b'-'
-}
-
-// The picture's file, made once the panel is open and before anything is run, so that a bad argument empties no file: NO_FILE where none is asked for, -1 (and a message) where it can't be written.
-fn picture_file(i: usize) -> i32 {
-    if os::arg_count() <= i {
-        return NO_FILE;
-    }
+fn made_file(i: usize) -> i32 {
     let mut room = io::buffer();
     let n = os::arg(i, &mut room);
-    if is_dash(&room[..n]) {
-        return 1;
-    }
     let fd = os::open_overwrite(&room[..n]);
     if fd < 0 {
-        os::fail(&room[..n]);
-        complain(b"the picture can't be written there; expected is the name of a file to write\n");
+        complain_why(b"the picture's file can't be written", os::errno());
         return -1;
     }
     fd
+}
+
+// The picture's file, made once the panel is open and before anything is run, so that a bad argument empties no file: NO_FILE where none is asked for,
+// -1 (and a message) where it can't be written. A dash stands for standard output, where the picture follows the lines.
+fn picture_file(i: usize) -> i32 {
+    if !has_argument(i) {
+        return NO_FILE;
+    }
+    if is_argument(i, b"-") {
+        return 1;
+    }
+    made_file(i)
 }
 
 fn header(width: u32, height: u32, bytes: u32) {
@@ -67,15 +65,17 @@ fn header(width: u32, height: u32, bytes: u32) {
     say(b"\n");
 }
 
+// Closes a file that was made. Some file systems say only here that they lost what they took.
+fn closed(fd: i32) -> bool {
+    fd < 3 || libc::close(fd) == 0
+}
+
 fn finish(fd: i32, width: u32, height: u32, picture: &[u32]) {
     if fd == NO_FILE {
         return;
     }
-    if !write_picture(fd, width, height, picture) {
-        complain(b"the picture could not be written whole\n");
-    }
-    if 2 < fd {
-        libc::close(fd);
+    if !write_picture(fd, width, height, picture) || !closed(fd) {
+        complain_why(b"the picture could not be written whole", os::errno());
     }
 }
 
@@ -150,7 +150,7 @@ fn start(width: u32, height: u32, bytes: u32, words: bool) {
     show(width, height, bytes, words);
 }
 
-fn from_arguments(words: bool, usage: &[u8]) {
+fn of_size(words: bool, usage: &[u8]) {
     let s = size_argument();
     if !s.good {
         complain(
@@ -170,6 +170,19 @@ fn from_arguments(words: bool, usage: &[u8]) {
     start(s.width, s.height, b.value, words);
 }
 
+// In words it needs no arguments, and is then on the trace program's panel.
+fn from_arguments(words: bool, usage: &[u8]) {
+    if !begin(3, usage) {
+        return;
+    }
+    if words && !has_argument(1) {
+        start(4, 1, 16, words);
+    } else {
+        of_size(words, usage);
+    }
+    end();
+}
+
 // panel WIDTHxHEIGHT BYTES [PICTURE.ppm]: the trace's lines on such a panel.
 pub fn panel() {
     from_arguments(
@@ -178,12 +191,8 @@ pub fn panel() {
     );
 }
 
-// explain [WIDTHxHEIGHT BYTES [PICTURE.ppm]]: the same in words; without arguments on the trace program's panel.
+// explain [WIDTHxHEIGHT BYTES [PICTURE.ppm]]: the same in words.
 pub fn explain() {
-    if os::arg_count() <= 1 {
-        start(4, 1, 16, true);
-        return;
-    }
     from_arguments(
         true,
         b"usage: explain [WIDTHxHEIGHT BYTES [PICTURE.ppm]] < TRACE\n",

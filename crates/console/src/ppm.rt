@@ -56,13 +56,14 @@ fn write_dots(fd: i32, picture: &[u32]) -> bool {
     true
 }
 
+// A number and the text behind it.
+fn write_number(fd: i32, n: u32, text: &[u8]) -> bool {
+    io::print_decimal(fd, n as u64) && io::write_all(fd, text)
+}
+
 pub(crate) fn write_picture(fd: i32, width: u32, height: u32, picture: &[u32]) -> bool {
-    io::write_all(fd, b"P6\n");
-    io::print_decimal(fd, width as u64);
-    io::write_all(fd, b" ");
-    io::print_decimal(fd, height as u64);
-    if !io::write_all(fd, b"\n255\n") {
-        return false;
-    }
-    write_dots(fd, picture)
+    io::write_all(fd, b"P6\n")
+        && write_number(fd, width, b" ")
+        && write_number(fd, height, b"\n255\n")
+        && write_dots(fd, picture)
 }

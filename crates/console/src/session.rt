@@ -1,4 +1,5 @@
 // The loop over standard input: lines gathered from chunks of any size, each carried out and answered at once.
+use crate::complain::complain_why;
 use crate::explain::say_access;
 use crate::say::say;
 use chip::State;
@@ -117,7 +118,7 @@ fn turn(k: Kept, words: bool, line: &mut [u8], memory: &mut [u8], picture: &mut 
     let mut chunk = io::buffer();
     let got = libc::read(0, &mut chunk);
     if got < 0 {
-        io::write_all(2, b"standard input can't be read\n");
+        complain_why(b"standard input can't be read", os::errno());
         return Round {
             more: false,
             kept: k,

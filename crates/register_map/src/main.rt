@@ -2,7 +2,10 @@
 mod rows; // rows.rt: one register a row
 
 fn main() {
-    rows::region();
-    rows::header();
-    rows::indirect();
+    if console::program::begin(0, b"usage: register_map\n") {
+        rows::region();
+        rows::header();
+        rows::indirect();
+        console::program::end();
+    }
 }

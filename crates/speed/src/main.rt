@@ -1,8 +1,13 @@
-// How long 100,000 writes through an aperture take on a panel of 4 by 1 and on one of 1,024 by 1,024. Each write changes four
-// dots in both. It measures only where its standard input has a byte, and writes nothing otherwise, since times vary.
+// speed [counts]: how long 100,000 writes through an aperture take on a panel of 4 by 1 and on one of 1,024 by 1,024. Each write changes four
+// dots in both. With the word `counts` it leaves out the times, which vary, so that what it writes can be compared.
 use chip::Access;
 use chip::State;
 use console::clock::microseconds;
+use console::complain::complain;
+use console::program::begin;
+use console::program::end;
+use console::program::has_argument;
+use console::program::is_argument;
 use console::say::say;
 use console::say::say_number;
 
@@ -95,19 +100,26 @@ fn writes(s: State, step: u32, memory: &mut [u8], picture: &mut [u32]) -> u32 {
     dots
 }
 
-fn timed(s: State, step: u32, memory: &mut [u8], picture: &mut [u32]) -> u32 {
+fn report(times: bool, t: u32, dots: u32) {
+    if times {
+        say_number(t);
+        say(b" microseconds, ");
+    }
+    say_number(dots);
+    say(b" dots changed\n");
+}
+
+fn timed(times: bool, s: State, step: u32, memory: &mut [u8], picture: &mut [u32]) -> u32 {
     let a = microseconds();
     let dots = writes(s, step, memory, picture);
     let b = microseconds();
     let t = std::num::wrapping_sub_u32(b, a);
-    say_number(t);
-    say(b" microseconds, ");
-    say_number(dots);
-    say(b" dots changed\n");
+    report(times, t, dots);
     t
 }
 
 fn run(
+    times: bool,
     width: u32,
     height: u32,
     stride: u32,
@@ -116,21 +128,21 @@ fn run(
     picture: &mut [u32],
 ) -> u32 {
     let s = shown(width, height, stride, memory, picture);
-    timed(s, step, memory, picture)
+    timed(times, s, step, memory, picture)
 }
 
-fn small() -> u32 {
+fn small(times: bool) -> u32 {
     let mut memory = [0u8; 16];
     let mut picture = [0u32; 4];
     say(b"4 by 1: ");
-    run(4, 1, 1, 0, &mut memory, &mut picture)
+    run(times, 4, 1, 1, 0, &mut memory, &mut picture)
 }
 
-fn large() -> u32 {
+fn large(times: bool) -> u32 {
     let mut memory = [0u8; 1048576];
     let mut picture = [0u32; 1048576];
     say(b"1024 by 1024: ");
-    run(1024, 1024, 128, 4, &mut memory, &mut picture)
+    run(times, 1024, 1024, 128, 4, &mut memory, &mut picture)
 }
 
 fn ratio(a: u32, b: u32) {
@@ -141,14 +153,24 @@ fn ratio(a: u32, b: u32) {
     }
 }
 
-fn measure() {
-    let a = small();
-    let b = large();
-    ratio(a, b);
+fn measure(times: bool) {
+    let a = small(times);
+    let b = large(times);
+    if times {
+        ratio(a, b);
+    }
 }
 
 fn main() {
-    if console::clock::has_input() {
-        measure();
+    if !begin(1, b"usage: speed [counts]\n") {
+        return;
     }
+    if !has_argument(1) {
+        measure(true);
+    } else if is_argument(1, b"counts") {
+        measure(false);
+    } else {
+        complain(b"usage: speed [counts]\n");
+    }
+    end();
 }

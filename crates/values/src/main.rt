@@ -9,7 +9,7 @@ mod limits; // limits.rt: width, height and memory
 mod refusals; // refusals.rt: each refusal once
 mod access; // access.rt: offsets, enables and six-bit red
 
-fn main() {
+fn all() {
     access::offsets();
     access::enables();
     access::six_bit_red();
@@ -17,4 +17,11 @@ fn main() {
     limits::heights();
     limits::memories();
     refusals::all();
+}
+
+fn main() {
+    if console::program::begin(0, b"usage: values\n") {
+        all();
+        console::program::end();
+    }
 }

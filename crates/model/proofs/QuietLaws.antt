@@ -1,6 +1,6 @@
 -- Writes that the picture does not show, and reads: every dot keeps its word.
--- The dots' words read four rows of the bank and the palette, and these writes leave them. Assumes nothing.
-use Prim.Native.Nat.{ℕ}
+-- A view reads four rows of the bank and the palette, and these writes leave them. Assumes nothing.
+use Prim.Native.Nat.{ℕ, _%_}
 use mathlib.Core.Bool.{Bool, true, false, _&&_}
 use mathlib.Core.List.{List}
 use mathlib.Core.Option.{Option, none, some}
@@ -13,13 +13,17 @@ use Rattle.bits.proofs.Cases.{pick-same}
 use Rattle.chip.specs.declared.State.{State}
 use Rattle.chip.specs.declared.Access.{Access}
 use Rattle.chip.specs.declared.Dac.{Dac}
+use Rattle.chip.specs.declared.Palette.{Palette}
 use Rattle.chip.specs.declared.Place.{Place}
 use Rattle.chip.specs.declared.Place.the-variants.{Register, Address, PaletteData, Window, Blank, Nowhere}
 use Rattle.chip.specs.Bank.{screenBase, screenStride, pixelMask, colorMode}
 use Rattle.chip.specs.Dac.{bothStaged, completedBy}
 use Rattle.chip.specs.Patch.{Store, Patch, nothingStored, valued, learned, painted, applied}
 use Rattle.chip.specs.Port.{rowPatch, aimPatch, paintPatch, pokePatch, portAt}
-use Rattle.chip.specs.Picture.{baseOf, strideOf, rowStart, dotByte, maskOf, notIndexed, unplaced, dotEntry, underByte, underAt, laidAt, wordAt, wordOf}
+use Rattle.chip.specs.Palette.{entryOf}
+use Rattle.chip.specs.View.{View, SameView}
+use Rattle.chip.specs.Picture.{viewWord, wordOf}
+use Rattle.chip.proofs.Views.{same-view}
 use Rattle.chip.proofs.Ports.{stepOnly, read-steps}
 use Rattle.model.specs.Parts.{rowShows, Quiet, QuietUnless}
 
@@ -41,33 +45,25 @@ unfolding Aside
 learned-aside none l k a t = refl
 learned-aside (some x) l k a t = getD-set-other l (x .row) k _ 0 (λ z. clash (rowShows k) t (ap rowShows z ∙ a))
 
--- two states that share what the dots' words read
-record Alike (s n : State) : Type 0 where
-  width : n .width ≡ s .width
-  value : (k : ℕ) → rowShows k ≡ true → getD (n .values) k 0 ≡ getD (s .values) k 0
-  known : (k : ℕ) → rowShows k ≡ true → getD (n .knowns) k 0 ≡ getD (s .knowns) k 0
-  palette : n .palette ≡ s .palette
-
-quiet-alike : (s n : State) → Alike s n → Quiet s n
-unfolding wordOf wordAt laidAt underAt underByte dotEntry unplaced notIndexed maskOf dotByte rowStart strideOf baseOf rowShows
-quiet-alike s n e m j =
-    simp (
-      e .width,
-      e .value screenBase refl,
-      e .value screenStride refl,
-      e .value pixelMask refl,
-      e .value colorMode refl,
-      e .known screenBase refl,
-      e .known screenStride refl,
-      e .known pixelMask refl,
-      e .palette,
-    )
+patch-view : (p : Patch) (s : State) → Aside (p .store) → painted (p .paint) (s .palette) ≡ s .palette → SameView s (applied p s)
+unfolding applied rowShows
+patch-view p s a e =
+    record {
+      width = refl;
+      height = refl;
+      base = ap (λ (k : ℕ). k % 0x100000) (valued-aside (p .store) (s .values) screenBase a refl);
+      base-known = ap (λ (k : ℕ). k % 0x100000) (learned-aside (p .store) (s .knowns) screenBase a refl);
+      stride = ap (λ (k : ℕ). k % 0x100000) (valued-aside (p .store) (s .values) screenStride a refl);
+      stride-known = ap (λ (k : ℕ). k % 0x100000) (learned-aside (p .store) (s .knowns) screenStride a refl);
+      mask = ap (λ (k : ℕ). k % 256) (valued-aside (p .store) (s .values) pixelMask a refl);
+      mask-known = ap (λ (k : ℕ). k % 256) (learned-aside (p .store) (s .knowns) pixelMask a refl);
+      mode = ap (λ (k : ℕ). k % 32) (valued-aside (p .store) (s .values) colorMode a refl);
+      palette = λ k. ap (λ (q : Palette). entryOf q k) e;
+    }
 
 quiet-patch : (p : Patch) (s : State) → Aside (p .store) → painted (p .paint) (s .palette) ≡ s .palette → Quiet s (applied p s)
-unfolding applied
-quiet-patch p s a e =
-    quiet-alike s (applied p s)
-    (record { width = refl; value = λ k. valued-aside (p .store) (s .values) k a; known = λ k. learned-aside (p .store) (s .knowns) k a; palette = e })
+unfolding wordOf
+quiet-patch p s a e m j = ap (λ (v : View). viewWord v m j) (sym (same-view s (applied p s) (patch-view p s a e)))
 
 -- ---- the places
 

@@ -20,7 +20,8 @@ use Rattle.chip.specs.declared.Access.{Access}
 use Rattle.chip.specs.declared.Answer.{Answer}
 use Rattle.chip.specs.Aperture.{Put, laneOf, reach, putLane, putsOf, putAll}
 use Rattle.chip.specs.Units.{atByte}
-use Rattle.chip.specs.Picture.{dotByte, beyond, dotEntry, underByte, underAt, laidAt, wordAt, wordOf, chosen, redrawn, diffs}
+use Rattle.chip.specs.View.{viewOf}
+use Rattle.chip.specs.Picture.{dotByte, beyond, dotEntry, underByte, underAt, laidAt, wordAt, viewWord, wordOf, chosen, redrawn, diffs}
 use Rattle.chip.specs.Step.{Gives, answered, settled}
 use Rattle.chip.proofs.Lent.{lane-back}
 use Rattle.chip.proofs.Redraw.{redrawn-length, redrawn-at, diffs-le}
@@ -120,10 +121,10 @@ module _ (f g h : ℕ → ℕ) (l : List ℕ) (r : ℕ) (k : List ℕ) (q : ℕ)
 
 -- a dot's byte
 abbrev byteOf : State → ℕ → ℕ
-byteOf s j = dotByte s (j % s .width) (j / s .width) .0
+byteOf s j = dotByte (viewOf s) (j % s .width) (j / s .width) .0
 
 word-by : (s : State) (m n : List ℕ) (j : ℕ) → length n ≡ length m → getD n (byteOf s j) 0 ≡ getD m (byteOf s j) 0 → wordOf s m j ≡ wordOf s n j
-unfolding wordOf wordAt laidAt underAt underByte beyond dotEntry
+unfolding wordOf viewWord wordAt laidAt underAt underByte beyond dotEntry viewOf
 word-by s m n j e h = simp (e, h)
 
 -- no two lanes have one byte

@@ -16,49 +16,50 @@ use Rattle.chip.specs.declared.State.{State}
 use Rattle.chip.specs.declared.Units.{Units}
 use Rattle.chip.specs.Units.{atByte}
 use Rattle.chip.specs.Palette.{entryOf}
-use Rattle.chip.specs.Picture.{baseOf, strideOf, rowStart, dotByte, maskOf, notIndexed, unplaced, beyond, colourWord, dotEntry, underByte, underAt, laidAt, wordAt, wordOf, chosen}
-use Rattle.picture.specs.Draw.{fits, Redraws, Part, fixedOf}
+use Rattle.chip.specs.View.{baseOf, strideOf, maskOf, fixedOf, viewOf}
+use Rattle.chip.specs.Picture.{rowStart, dotByte, ruled, beyond, colourWord, dotEntry, underByte, underAt, laidAt, wordAt, viewWord, wordOf, chosen}
+use Rattle.picture.specs.Draw.{fits, Redraws, Part, fixedWord}
 use Rattle.picture.specs.Poke.{Pokes, byteWord, rowByte, hits}
 use Rattle.picture.proofs.Parts.{part-like, part-redraws, no-redraw, still-redraws}
-use Rattle.picture.proofs.ViewLaws.{rules}
+use Rattle.picture.proofs.ViewLaws.{rules, fixed-none}
 use Rattle.picture.proofs.TouchLaws.{hit, miss}
 
 -- ---- the word of a byte in memory
 
 -- a byte's word, put together by the code from the fixed word and the mask
-pub byte-word : (s : State) (v f k u r : ℕ) → f ≡ fixedOf s → k ≡ maskOf s → u ≡ v → r ≡ pick (eqb f 0) (colourWord (entryOf (s .palette) (inside u k))) f → r ≡ byteWord s v
+pub byte-word : (s : State) (v f k u r : ℕ) → f ≡ fixedWord s → k ≡ maskOf s → u ≡ v → r ≡ pick (eqb f 0) (colourWord (entryOf (s .palette) (inside u k))) f → r ≡ byteWord s v
 unfolding byteWord
 byte-word s v f k u r p q e h = simp (p, q, e) at h
 
-fitted : (s : State) (m : List ℕ) (at : ℕ) → at < length m → underByte s m (atByte at) ≡ byteWord s (getD m at 0)
-unfolding underByte beyond dotEntry byteWord fixedOf
-fitted s m at h = simp (lt-leb (length m) at h) (sym (rules (notIndexed s) (unplaced s) true _))
+fitted : (s : State) (m : List ℕ) (at : ℕ) → at < length m → underByte (viewOf s) m (atByte at) ≡ byteWord s (getD m at 0)
+unfolding underByte beyond dotEntry byteWord fixedWord viewOf
+fitted s m at h = simp (lt-leb (length m) at h) (sym (rules (fixedOf s) true _ (fixed-none s)))
 
 -- where the byte of dot j lies
 abbrev placeOf : State → ℕ → ℕ
 placeOf s j = rowByte (baseOf s .0) (strideOf s .0) (j / s .width) + j % s .width
 
-placed : (s : State) (m : List ℕ) (j : ℕ) → wordOf s m j ≡ underByte s m (atByte (placeOf s j))
-unfolding wordOf wordAt laidAt underAt dotByte rowStart
+placed : (s : State) (m : List ℕ) (j : ℕ) → wordOf s m j ≡ underByte (viewOf s) m (atByte (placeOf s j))
+unfolding wordOf viewWord viewOf wordAt laidAt underAt dotByte rowStart
 placed s m j = refl
 
 module _ (s : State) (m : List ℕ) (at v j : ℕ) where
   -- another byte's dot
   other : (placeOf s j ≡ at → ⊥) → wordOf s m j ≡ wordOf s (set m at v) j
-  unfolding underByte beyond dotEntry
+  unfolding underByte beyond dotEntry viewOf
   other d =
       placed s m j
-      ∙ ap₂ (λ (x n : ℕ). pick (notIndexed s) 0x03000000 (pick (unplaced s) 0x05000000 (pick (leb n (placeOf s j)) 0x02000000 (colourWord (entryOf (s .palette) (inside x (maskOf s)))))))
+      ∙ ap₂ (λ (x n : ℕ). ruled (fixedOf s) (pick (leb n (placeOf s j)) 0x02000000 (colourWord (entryOf (s .palette) (inside x (maskOf s))))))
       (sym (getD-set-other m at (placeOf s j) v 0 d)) (sym (length-set m at v))
       ∙ sym (placed s (set m at v) j)
 
   module _ (h : at < length m) (e : placeOf s j ≡ at) where
     old : wordOf s m j ≡ byteWord s (getD m at 0)
-    old = placed s m j ∙ ap (λ (x : ℕ). underByte s m (atByte x)) e ∙ fitted s m at h
+    old = placed s m j ∙ ap (λ (x : ℕ). underByte (viewOf s) m (atByte x)) e ∙ fitted s m at h
 
     new : wordOf s (set m at v) j ≡ byteWord s v
     new =
-        placed s (set m at v) j ∙ ap (λ (x : ℕ). underByte s (set m at v) (atByte x)) e
+        placed s (set m at v) j ∙ ap (λ (x : ℕ). underByte (viewOf s) (set m at v) (atByte x)) e
         ∙ fitted s (set m at v) at (omega (arith, length-set m at v)) ∙ ap (byteWord s) (getD-set-same m at v 0 h)
 
 -- ---- the redraw

@@ -6,8 +6,9 @@ ghost use lib.Dec.{eqb};
 ghost use lib.ListN.{length};
 ghost use Rattle.bits.specs.Choose.{pick};
 ghost use Rattle.chip.specs.Sound.{panelOk};
-ghost use Rattle.chip.specs.Picture.{maskOf, wordOf};
-ghost use Rattle.picture.specs.Draw.{fits, Redraws, Part, fixedOf, pastOf, TableFrom};
+ghost use Rattle.chip.specs.View.{maskOf};
+ghost use Rattle.chip.specs.Picture.{wordOf};
+ghost use Rattle.picture.specs.Draw.{fits, Redraws, Part, fixedWord, pastOf, TableFrom};
 use crate::view::base_of;
 use crate::view::fixed_of;
 use crate::view::mask_of;
@@ -22,7 +23,7 @@ fn past_of(fixed: u32) -> u32
 }
 
 fn table_of(s: State) -> [u32; 256]
-    ensures { λ r. ⌜ TableFrom (fixedOf s) (maskOf s) (s .palette) 256 r ⌝ }
+    ensures { λ r. ⌜ TableFrom (fixedWord s) (maskOf s) (s .palette) 256 r ⌝ }
 {
     table_from(
         fixed_of(s),

@@ -5,8 +5,9 @@ ghost use lib.Dec.{eqb};
 ghost use Rattle.bits.specs.Choose.{pick};
 ghost use Rattle.bits.specs.Word.{inside};
 ghost use Rattle.chip.specs.Palette.{entryOf};
-ghost use Rattle.chip.specs.Picture.{baseOf, strideOf, maskOf, notIndexed, unplaced, colourWord};
-ghost use Rattle.picture.specs.Draw.{fixedOf, paletteOf, TableFrom};
+ghost use Rattle.chip.specs.View.{baseOf, strideOf, maskOf, notIndexed, unplaced};
+ghost use Rattle.chip.specs.Picture.{colourWord};
+ghost use Rattle.picture.specs.Draw.{fixedWord, paletteOf, TableFrom};
 use chip::COLOR_MODE;
 use chip::PIXEL_MASK;
 use chip::SCREEN_BASE;
@@ -35,7 +36,7 @@ fn is_unplaced(s: State) -> bool
 
 // Rules 1 and 2: the word of every dot, or 0.
 pub(crate) fn fixed_of(s: State) -> u32
-    ensures { λ r. ⌜ r ≡ fixedOf s ⌝ }
+    ensures { λ r. ⌜ r ≡ fixedWord s ⌝ }
 {
     if not_indexed(s) {
         return 0x03000000;

@@ -4,7 +4,7 @@ use Prim.Native.Nat.{ℕ, _/_, _<_}
 use mathlib.Core.Bool.{Bool, true, false, _&&_}
 use mathlib.Core.List.{List}
 use mathlib.Core.Option.{Option, none, Option·getD}
-use mathlib.Core.Path.{_≡_, refl, sym, ap, _∙_, subst}
+use mathlib.Core.Path.{_≡_, refl, sym, ap, ap₂, _∙_, subst}
 use borrow.Author.Tests.{eqb-true}
 use lib.Dec.{eqb}
 use Rattle.bits.specs.Bit.{bit}
@@ -20,7 +20,8 @@ use Rattle.chip.specs.Aperture.{putAll}
 use Rattle.chip.specs.Patch.{Store, Patch, valued, learned, painted, applied, memoryWith}
 use Rattle.chip.specs.Port.{knownIn, wordIn}
 use Rattle.chip.specs.Refusal.{isWrite}
-use Rattle.chip.specs.Picture.{baseOf, strideOf, rowStart, dotByte, maskOf, notIndexed, unplaced, beyond, dotEntry, underByte, underAt, laidAt, wordAt, wordOf}
+use Rattle.chip.specs.View.{View, baseOf, strideOf, maskOf, notIndexed, unplaced, fixedOf, viewOf}
+use Rattle.chip.specs.Picture.{viewWord, wordOf}
 use Rattle.chip.specs.Step.{Outcome, refused, settled, seenBy, doneBy, givenBy, stepOf}
 use Rattle.chip.specs.Trace.{World, step, after}
 use Rattle.chip.proofs.Redraw.{redrawn-alike}
@@ -81,10 +82,14 @@ stepped-state p s e o q =
       palette = ap (λ (h : Option Paint). painted h (s .palette)) q;
     }
 
--- a dot's word does not ask for it
+-- a view does not ask for it
+still-view : (s n : State) → StepsOnly s n → viewOf s ≡ viewOf n
+unfolding viewOf fixedOf unplaced notIndexed maskOf strideOf baseOf
+still-view s n e = simp (e .width, e .height, e .values, e .knowns, e .palette)
+
 still-word : (s n : State) (m k : List ℕ) → StepsOnly s n → k ≡ m → (j : ℕ) → wordOf s m j ≡ wordOf n k j
-unfolding wordOf wordAt laidAt underAt underByte dotEntry beyond unplaced notIndexed maskOf dotByte rowStart strideOf baseOf
-still-word s n m k e f j = simp (e .width, e .values, e .knowns, e .palette, f)
+unfolding wordOf
+still-word s n m k e f j = ap₂ (λ (v : View) (l : List ℕ). viewWord v l j) (still-view s n e) (sym f)
 
 not-written : (x : World) (a : Access) → isWrite a ≡ false → writes x a ≡ false
 not-written x a w = simp w (and-false (accepted x a))

@@ -1,4 +1,4 @@
--- What depends on what: a dot's word on base, stride, pixel mask, colour mode, palette and memory; an aperture access on its own control register.
+-- What depends on what: a dot's word on the view and memory; an aperture access on its own control register.
 -- By rewriting the definitions with what two states or worlds share. Assumes nothing.
 use Prim.Native.Nat.{ℕ, _%_}
 use mathlib.Core.Bool.{not, _&&_}
@@ -15,7 +15,8 @@ use Rattle.chip.specs.declared.Access.{Access}
 use Rattle.chip.specs.declared.Place.the-variants.{Window}
 use Rattle.chip.specs.Aperture.{span, reachesMemory, served, wordFrom, putsOf, putAll}
 use Rattle.chip.specs.Units.{atByte}
-use Rattle.chip.specs.Picture.{baseOf, strideOf, rowStart, dotByte, maskOf, notIndexed, unplaced, beyond, dotEntry, underByte, underAt, laidAt, wordAt}
+use Rattle.chip.specs.View.{View, viewOf}
+use Rattle.chip.specs.Picture.{viewWord, wordOf}
 use Rattle.chip.specs.Place.{placeOf}
 use Rattle.chip.specs.Patch.{memoryWith}
 use Rattle.chip.specs.Port.{seen, knownIn, wordIn, pokePatch, portAt}
@@ -23,14 +24,14 @@ use Rattle.chip.specs.Refusal.{line, firstOf, isWrite, portOf, laterLines, acce
 use Rattle.chip.specs.Step.{refused, settled, seenBy, patchOf, memoryAfter, doneBy, givenBy, stepOf}
 use Rattle.chip.specs.Trace.{World, step, after}
 use Rattle.promises.specs.Good.{Good, statusAt}
-use Rattle.promises.specs.View.{SameView, SameWindow}
+use Rattle.promises.specs.View.{SameWindow}
 use Rattle.promises.proofs.Sites.{window-there}
 
 -- ---- a dot's word
 
-pub same-word : (s n : State) (m : List ℕ) (x y : ℕ) → SameView s n → wordAt n m x y ≡ wordAt s m x y
-unfolding wordAt laidAt underAt underByte dotEntry beyond unplaced notIndexed maskOf dotByte rowStart strideOf baseOf
-same-word s n m x y v = simp (v .base, v .base-known, v .stride, v .stride-known, v .mask, v .mask-known, v .mode, v .palette)
+pub same-word : (s n : State) (m : List ℕ) (i : ℕ) → viewOf n ≡ viewOf s → wordOf n m i ≡ wordOf s m i
+unfolding wordOf
+same-word s n m i e = ap (λ (v : View). viewWord v m i) e
 
 -- ---- an aperture access
 

@@ -7,15 +7,21 @@ use Rattle.chip.specs.declared.State.{State}
 use Rattle.chip.specs.declared.Access.{Access}
 use Rattle.chip.specs.declared.Place.the-variants.{Window}
 use Rattle.chip.specs.Place.{placeOf}
-use Rattle.chip.specs.Picture.{wordAt}
+use Rattle.chip.specs.View.{viewOf, SameView}
+use Rattle.chip.specs.Picture.{wordOf}
 use Rattle.chip.specs.Trace.{World}
+use Rattle.chip.proofs.Views.{same-view}
 use Rattle.promises.specs.Good.{Good}
-use Rattle.promises.specs.View.{SameView, SameWindow}
+use Rattle.promises.specs.View.{SameWindow}
 use Rattle.promises.proofs.Depends.{same-word, SameAnswer, same-window}
 
--- two states that share those give dot (x, y) the same word over the same memory
-pub word-depends : (s n : State) (m : List ℕ) (x y : ℕ) → SameView s n → wordAt n m x y ≡ wordAt s m x y
+-- a dot's word is made of the view and of memory ..
+pub word-depends : (s n : State) (m : List ℕ) (i : ℕ) → viewOf n ≡ viewOf s → wordOf n m i ≡ wordOf s m i
 word-depends = same-word
+
+-- .. and the view of those fields alone
+pub view-depends : (s n : State) → SameView s n → viewOf n ≡ viewOf s
+view-depends = same-view
 
 -- two worlds that share memory and the aperture's control register give an access through it the same status, word and known mask, and leave the same memory
 pub aperture-depends : (x y : World) (a : Access) (i : ℕ) → Good x → Good y → placeOf (x .state) a ≡ Window i → SameWindow x y i → SameAnswer x y a

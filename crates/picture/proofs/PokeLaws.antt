@@ -3,7 +3,7 @@
 use Prim.Native.Nat.{ℕ, _+_, _/_, _%_, _<_, _≤_}
 use mathlib.Core.Bool.{Bool, true, false}
 use mathlib.Core.List.{List}
-use mathlib.Core.Path.{_≡_, refl, sym, ap, ap₂, _∙_, subst}
+use mathlib.Core.Path.{_≡_, refl, sym, ap, ap₂, _∙_}
 use native.Mathlib.Omega.{arith}
 use borrow.Author.Tests.{eqb-true, eqb-false, eq-eqb, lt-leb}
 use lib.Dec.{eqb, leb}
@@ -13,27 +13,27 @@ use Rattle.bits.specs.Choose.{pick}
 use Rattle.bits.specs.Word.{inside}
 use Rattle.bits.proofs.Cases.{byTest}
 use Rattle.chip.specs.declared.State.{State}
-use Rattle.chip.specs.declared.Units.{Units}
 use Rattle.chip.specs.Units.{atByte}
 use Rattle.chip.specs.Palette.{entryOf}
 use Rattle.chip.specs.View.{baseOf, strideOf, maskOf, fixedOf, viewOf}
 use Rattle.chip.specs.Picture.{rowStart, dotByte, ruled, beyond, colourWord, dotEntry, underByte, underAt, laidAt, wordAt, viewWord, wordOf, chosen}
-use Rattle.picture.specs.Draw.{fits, Redraws, Part, fixedWord}
+use Rattle.picture.specs.Draw.{fits, Redraws, Part, shownOf, shownWord}
+use Rattle.picture.specs.declared.view.Shown.{Shown}
 use Rattle.picture.specs.Poke.{Pokes, byteWord, rowByte, hits}
 use Rattle.picture.proofs.Parts.{part-like, part-redraws, no-redraw, still-redraws}
-use Rattle.picture.proofs.ViewLaws.{rules, fixed-none}
+use Rattle.picture.proofs.ViewLaws.{shown-ruled}
 use Rattle.picture.proofs.TouchLaws.{hit, miss}
 
 -- ---- the word of a byte in memory
 
--- a byte's word, put together by the code from the fixed word and the mask
-pub byte-word : (s : State) (v f k u r : ℕ) → f ≡ fixedWord s → k ≡ maskOf s → u ≡ v → r ≡ pick (eqb f 0) (colourWord (entryOf (s .palette) (inside u k))) f → r ≡ byteWord s v
+-- a byte's word, put together by the code from the word of every dot and the mask
+pub byte-word : (s : State) (v : ℕ) (f : Shown) (k u r : ℕ) → f ≡ shownOf s → k ≡ maskOf s → u ≡ v → r ≡ shownWord f (colourWord (entryOf (s .palette) (inside u k))) → r ≡ byteWord s v
 unfolding byteWord
-byte-word s v f k u r p q e h = simp (p, q, e) at h
+byte-word s v f k u r p q e h = rw (p, q, e) at h
 
 fitted : (s : State) (m : List ℕ) (at : ℕ) → at < length m → underByte (viewOf s) m (atByte at) ≡ byteWord s (getD m at 0)
-unfolding underByte beyond dotEntry byteWord fixedWord viewOf
-fitted s m at h = simp (lt-leb (length m) at h) (sym (rules (fixedOf s) true _ (fixed-none s)))
+unfolding underByte beyond dotEntry byteWord viewOf
+fitted s m at h = simp (lt-leb (length m) at h) (sym (shown-ruled s _))
 
 -- where the byte of dot j lies
 abbrev placeOf : State → ℕ → ℕ
@@ -67,14 +67,6 @@ module _ (s : State) (m : List ℕ) (at v j : ℕ) where
 -- equal words choose what stands there, whichever they are
 unchanged : (a b c d w : ℕ) → a ≡ b → c ≡ d → chosen a b w ≡ chosen c d w
 unchanged a b c d w p q = simp (eq-eqb a b p, eq-eqb c d q)
-
--- base and stride as a state has them
-pub as-placed : (s : State) (base stride : Units) (w at a b x y : ℕ) (l : List ℕ) (r : ℕ) (l′ : List ℕ) → base ≡ baseOf s → stride ≡ strideOf s
-    → Part (hits (base .0) (stride .0) w at a) (hits (base .0) (stride .0) w at b) x y l r l′
-    → Part (hits (baseOf s .0) (strideOf s .0) w at a) (hits (baseOf s .0) (strideOf s .0) w at b) x y l r l′
-as-placed s base stride w at a b x y l r l′ eb es p =
-    subst (λ (k : Units). Part (hits (baseOf s .0) (k .0) w at a) (hits (baseOf s .0) (k .0) w at b) x y l r l′) es
-    (subst (λ (k : Units). Part (hits (k .0) (stride .0) w at a) (hits (k .0) (stride .0) w at b) x y l r l′) eb p)
 
 module _ (s : State) (m p : List ℕ) (at v : ℕ) where
   -- past memory's end

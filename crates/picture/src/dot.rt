@@ -7,6 +7,20 @@ ghost use Rattle.bits.specs.Choose.{pick};
 ghost use Rattle.chip.specs.Picture.{chosen};
 ghost use Rattle.picture.specs.Draw.{lookOf, Put};
 
+// Where a row's bytes start in a layout, and the layout's word past memory's end.
+pub(crate) struct Start {
+    pub(crate) past: u32,
+    pub(crate) at: usize,
+}
+
+// A row of the panel in the old layout and in the new one, and its dots in the picture.
+pub(crate) struct Row {
+    pub(crate) old: Start,
+    pub(crate) new: Start,
+    pub(crate) first: usize,
+    pub(crate) width: usize,
+}
+
 fn choose(a: u32, b: u32, p: u32) -> u32
     ensures { λ r. ⌜ r ≡ chosen a b p ⌝ }
 {

@@ -1,32 +1,24 @@
 // A redraw for a change of state: one pass over the panel, and nothing where panel and picture do not fit.
-ghost use mathlib.Core.Bool.{true, false};
+ghost use mathlib.Core.Bool.{true};
 ghost use mathlib.Core.Path.{_≡_};
 ghost use Prim.Native.Nat.{_*_};
-ghost use lib.Dec.{eqb};
 ghost use lib.ListN.{length};
-ghost use Rattle.bits.specs.Choose.{pick};
 ghost use Rattle.chip.specs.Sound.{panelOk};
 ghost use Rattle.chip.specs.View.{maskOf};
 ghost use Rattle.chip.specs.Picture.{wordOf};
-ghost use Rattle.picture.specs.Draw.{fits, Redraws, Part, fixedWord, pastOf, TableFrom};
-use crate::view::base_of;
-use crate::view::fixed_of;
+ghost use Rattle.picture.specs.Draw.{fits, Redraws, Part, shownOf, bothAll, TableFrom};
+use crate::view::Shown;
+use crate::view::layout_of;
 use crate::view::mask_of;
-use crate::view::stride_of;
+use crate::view::shown_of;
 use crate::view::table_from;
 use chip::State;
 
-fn past_of(fixed: u32) -> u32
-    ensures { λ r. ⌜ r ≡ pastOf fixed ⌝ }
-{
-    if fixed == 0 { 0x02000000 } else { fixed }
-}
-
 fn table_of(s: State) -> [u32; 256]
-    ensures { λ r. ⌜ TableFrom (fixedWord s) (maskOf s) (s .palette) 256 r ⌝ }
+    ensures { λ r. ⌜ TableFrom (shownOf s) (maskOf s) (s .palette) 256 r ⌝ }
 {
     table_from(
-        fixed_of(s),
+        shown_of(s),
         mask_of(s),
         &s.palette.red,
         &s.palette.green,
@@ -68,43 +60,28 @@ fn redraw_fit<'a>(s: State, n: State, memory: &'a [u8], picture: &mut [u32]) -> 
 {
     let t0 = table_of(s);
     let t1 = table_of(n);
-    let b0 = base_of(s);
-    let b1 = base_of(n);
-    let k0 = stride_of(s);
-    let k1 = stride_of(n);
     let found = crate::entry::differing(&t0, &t1);
-    crate::rows::draw_rows(
-        found,
-        past_of(fixed_of(s)),
-        b0.0,
-        k0.0,
-        &t0,
-        past_of(fixed_of(n)),
-        b1.0,
-        k1.0,
-        &t1,
-        s.width as usize,
-        s.height as usize,
-        memory,
-        picture,
-    )
+    crate::rows::draw_rows(found, layout_of(s), &t0, layout_of(n), &t1, memory, picture)
 }
 
-// One fixed word is every dot's before and after, as with the colour mode off.
-fn fixed_alike(a: u32, b: u32) -> bool
-    ensures { λ r. ⌜ r ≡ pick (eqb a 0) false (eqb a b) ⌝ }
+// One word is every dot's before and after, as with the colour mode off.
+fn both_all(a: Shown, b: Shown) -> bool
+    ensures { λ r. ⌜ r ≡ bothAll a b ⌝ }
 {
-    if a == 0 {
-        return false;
+    match a {
+        Shown::All(x) => match b {
+            Shown::All(y) => x == y,
+            Shown::Each => false,
+        },
+        Shown::Each => false,
     }
-    a == b
 }
 
 // The dots whose word differs between the two states take the new one; the number of words that changed.
 pub fn redraw<'a>(s: State, n: State, memory: &'a [u8], picture: &mut [u32]) -> u32
     ensures { λ r. ⌜ Redraws (fits s n (length (now (picture .entry)))) (wordOf s (now (memory .entry))) (wordOf n (now (memory .entry))) (now (picture .entry)) r (now (picture .exit)) ⌝ }
 {
-    if fixed_alike(fixed_of(s), fixed_of(n)) {
+    if both_all(shown_of(s), shown_of(n)) {
         return 0;
     }
     if both_fit(s, n, picture.len()) {

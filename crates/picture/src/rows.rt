@@ -1,38 +1,16 @@
 // Every dot of the picture, row by row.
 ghost use mathlib.Core.Path.{_≡_};
-ghost use Prim.Native.Nat.{_+_, _*_, _<_, _≤_, _^_};
+ghost use Prim.Native.Nat.{_*_, _<_, _^_};
 ghost use lib.ListN.{length};
 ghost use Rattle.chip.specs.Units.{bytesOf};
-ghost use Rattle.picture.specs.Draw.{rowLook, RowDrawn, lookAt, Part, Panel};
-ghost use Rattle.picture.specs.Entry.{OneOf};
+ghost use Rattle.picture.specs.Draw.{Part};
+ghost use Rattle.picture.specs.Layout.{laidDots, Laid, LaidIn};
+ghost use Rattle.picture.specs.Differ.{Differs};
+use crate::dot::Row;
+use crate::dot::Start;
+use crate::entry::Differ;
+use crate::view::Layout;
 use chip::Units;
-
-// The dots of one row, whose bytes start at row0 in the old layout and at row1 in the new one.
-pub(crate) fn draw_row<'a>(
-    past0: u32,
-    row0: usize,
-    t0: &'a [u32; 256],
-    past1: u32,
-    row1: usize,
-    t1: &'a [u32; 256],
-    first: usize,
-    width: usize,
-    memory: &'a [u8],
-    picture: &mut [u32],
-) -> u32
-    requires { ⌜ (first + width ≤ length (now picture)) × ((width ≤ 1024) × ((row0 < 2 ^ 41) × (row1 < 2 ^ 41))) ⌝ }
-    ensures { λ r. ⌜ RowDrawn (rowLook past0 row0 first (now (t0 .entry)) (now (memory .entry))) (rowLook past1 row1 first (now (t1 .entry)) (now (memory .entry))) first width (now (picture .entry)) r (now (picture .exit)) ⌝ }
-{
-    let mut n: u32 = 0;
-    let mut x = 0;
-    while x < width {
-        let a = crate::dot::look(past0, row0 + x, t0, memory);
-        let b = crate::dot::look(past1, row1 + x, t1, memory);
-        n += crate::dot::put(picture, first + x, a, b);
-        x += 1;
-    }
-    n
-}
 
 // Where a row starts, in bytes.
 pub(crate) fn row_at(u: u32) -> usize
@@ -43,49 +21,43 @@ pub(crate) fn row_at(u: u32) -> usize
     b.0 as usize
 }
 
-// Every dot that can change, row after row: rows are counted in units and converted once each. The tables differ in the entry found at most, where it
-// is no 256.
+// Every dot that can change, row after row: rows are counted in units and converted once each. The panel is the old layout's.
 pub(crate) fn draw_rows<'a>(
-    found: usize,
-    past0: u32,
-    base0: u32,
-    stride0: u32,
+    found: Differ,
+    old: Layout,
     t0: &'a [u32; 256],
-    past1: u32,
-    base1: u32,
-    stride1: u32,
+    new: Layout,
     t1: &'a [u32; 256],
-    width: usize,
-    height: usize,
     memory: &'a [u8],
     picture: &mut [u32],
 ) -> u32
-    requires { ⌜ (Panel base0 stride0 width height (length (now picture))) × (Panel base1 stride1 width height (length (now picture))) ⌝ }
-    requires { ⌜ OneOf found 256 (now t0) (now t1) ⌝ }
-    ensures { λ r. ⌜ Part (lookAt past0 (record { 0 = base0 }) (record { 0 = stride0 }) width (now (t0 .entry)) (now (memory .entry))) (lookAt past1 (record { 0 = base1 }) (record { 0 = stride1 }) width (now (t1 .entry)) (now (memory .entry))) 0 (height * width) (now (picture .entry)) r (now (picture .exit)) ⌝ }
+    requires { ⌜ (Laid old (length (now picture))) × (LaidIn old new (length (now picture))) ⌝ }
+    requires { ⌜ Differs found 256 (now t0) (now t1) ⌝ }
+    ensures { λ r. ⌜ Part (laidDots old (old .width) (now (t0 .entry)) (now (memory .entry))) (laidDots new (old .width) (now (t1 .entry)) (now (memory .entry))) 0 (old .height * old .width) (now (picture .entry)) r (now (picture .exit)) ⌝ }
 {
+    let height = old.height;
     let mut n: u32 = 0;
-    let mut u0 = base0;
-    let mut u1 = base1;
+    let mut u0 = old.base.0;
+    let mut u1 = new.base.0;
     let mut first = 0;
     let mut y = 0;
     while y < height {
-        n += crate::entry::some_row(
-            found,
-            past0,
-            row_at(u0),
-            t0,
-            past1,
-            row_at(u1),
-            t1,
+        let row = Row {
+            old: Start {
+                past: old.past,
+                at: row_at(u0),
+            },
+            new: Start {
+                past: new.past,
+                at: row_at(u1),
+            },
             first,
-            width,
-            memory,
-            picture,
-        );
-        u0 += stride0;
-        u1 += stride1;
-        first += width;
+            width: old.width,
+        };
+        n += crate::row::some_row(found, row, t0, t1, memory, picture);
+        u0 += old.stride.0;
+        u1 += new.stride.0;
+        first += old.width;
         y += 1;
     }
     n

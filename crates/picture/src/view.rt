@@ -1,13 +1,12 @@
-// What of a state the picture reads: the two fixed words, base and stride in units of eight bytes, the mask, and the words of the 256 bytes.
+// What of a state the picture reads: the word of every dot, base and stride in units of eight bytes, the mask, and the words of the 256 bytes.
 ghost use mathlib.Core.Path.{_≡_};
 ghost use Prim.Native.Nat.{_<_};
-ghost use lib.Dec.{eqb};
-ghost use Rattle.bits.specs.Choose.{pick};
 ghost use Rattle.bits.specs.Word.{inside};
 ghost use Rattle.chip.specs.Palette.{entryOf};
 ghost use Rattle.chip.specs.View.{baseOf, strideOf, maskOf, notIndexed, unplaced};
 ghost use Rattle.chip.specs.Picture.{colourWord};
-ghost use Rattle.picture.specs.Draw.{fixedWord, paletteOf, TableFrom};
+ghost use Rattle.picture.specs.Draw.{shownOf, shownWord, paletteOf, TableFrom};
+ghost use Rattle.picture.specs.Layout.{layoutOf};
 use chip::COLOR_MODE;
 use chip::PIXEL_MASK;
 use chip::SCREEN_BASE;
@@ -34,26 +33,31 @@ fn is_unplaced(s: State) -> bool
     s.knowns[PIXEL_MASK] % 256 != 0xFF
 }
 
-// Rules 1 and 2: the word of every dot, or 0.
-pub(crate) fn fixed_of(s: State) -> u32
-    ensures { λ r. ⌜ r ≡ fixedWord s ⌝ }
-{
-    if not_indexed(s) {
-        return 0x03000000;
-    }
-    if is_unplaced(s) {
-        return 0x05000000;
-    }
-    0
+// The word of every dot, by rule 1 or 2, or each dot its own.
+pub(crate) enum Shown {
+    All(u32),
+    Each,
 }
 
-pub(crate) fn base_of(s: State) -> Units
+pub(crate) fn shown_of(s: State) -> Shown
+    ensures { λ r. ⌜ r ≡ shownOf s ⌝ }
+{
+    if not_indexed(s) {
+        return Shown::All(0x03000000);
+    }
+    if is_unplaced(s) {
+        return Shown::All(0x05000000);
+    }
+    Shown::Each
+}
+
+fn base_of(s: State) -> Units
     ensures { λ r. ⌜ r ≡ baseOf s ⌝ }
 {
     Units(s.values[SCREEN_BASE] % 0x100000)
 }
 
-pub(crate) fn stride_of(s: State) -> Units
+fn stride_of(s: State) -> Units
     ensures { λ r. ⌜ r ≡ strideOf s ⌝ }
 {
     Units(s.values[SCREEN_STRIDE] % 0x100000)
@@ -63,6 +67,37 @@ pub(crate) fn mask_of(s: State) -> u8
     ensures { λ r. ⌜ r ≡ maskOf s ⌝ }
 {
     (s.values[PIXEL_MASK] % 256) as u8
+}
+
+// The word past memory's end: rule 3's where each dot has its own.
+fn past_of(shown: Shown) -> u32
+    ensures { λ r. ⌜ r ≡ shownWord shown 0x02000000 ⌝ }
+{
+    match shown {
+        Shown::All(w) => w,
+        Shown::Each => 0x02000000,
+    }
+}
+
+// What of a state the redraws read beside its tables.
+pub(crate) struct Layout {
+    pub(crate) past: u32,
+    pub(crate) base: Units,
+    pub(crate) stride: Units,
+    pub(crate) width: usize,
+    pub(crate) height: usize,
+}
+
+pub(crate) fn layout_of(s: State) -> Layout
+    ensures { λ r. ⌜ r ≡ layoutOf s ⌝ }
+{
+    Layout {
+        past: past_of(shown_of(s)),
+        base: base_of(s),
+        stride: stride_of(s),
+        width: s.width as usize,
+        height: s.height as usize,
+    }
 }
 
 fn wide(x: u8) -> u32
@@ -96,7 +131,7 @@ fn entry_index(b: usize, mask: u8) -> usize
 }
 
 pub(crate) fn table_word<'a>(
-    fixed: u32,
+    shown: Shown,
     mask: u8,
     red: &'a [u8; 256],
     green: &'a [u8; 256],
@@ -105,29 +140,29 @@ pub(crate) fn table_word<'a>(
     b: usize,
 ) -> u32
     requires { ⌜ b < 256 ⌝ }
-    ensures { λ r. ⌜ r ≡ pick (eqb fixed 0) (colourWord (entryOf (paletteOf (now (red .entry)) (now (green .entry)) (now (blue .entry)) (now (stored .entry))) (inside b mask))) fixed ⌝ }
+    ensures { λ r. ⌜ r ≡ shownWord shown (colourWord (entryOf (paletteOf (now (red .entry)) (now (green .entry)) (now (blue .entry)) (now (stored .entry))) (inside b mask))) ⌝ }
 {
-    if fixed != 0 {
-        return fixed;
+    match shown {
+        Shown::All(w) => w,
+        Shown::Each => entry_word(red, green, blue, stored, entry_index(b, mask)),
     }
-    entry_word(red, green, blue, stored, entry_index(b, mask))
 }
 
-// The words of the 256 bytes, with the fixed word in every place where there is one.
+// The words of the 256 bytes, with one word in every place where every dot has it.
 pub(crate) fn table_from<'a>(
-    fixed: u32,
+    shown: Shown,
     mask: u8,
     red: &'a [u8; 256],
     green: &'a [u8; 256],
     blue: &'a [u8; 256],
     stored: &'a [u8; 256],
 ) -> [u32; 256]
-    ensures { λ r. ⌜ TableFrom fixed mask (paletteOf (now (red .entry)) (now (green .entry)) (now (blue .entry)) (now (stored .entry))) 256 r ⌝ }
+    ensures { λ r. ⌜ TableFrom shown mask (paletteOf (now (red .entry)) (now (green .entry)) (now (blue .entry)) (now (stored .entry))) 256 r ⌝ }
 {
     let mut t = [0u32; 256];
     let mut b = 0;
     while b < 256 {
-        let w = table_word(fixed, mask, red, green, blue, stored, b);
+        let w = table_word(shown, mask, red, green, blue, stored, b);
         t[b] = w;
         b += 1;
     }

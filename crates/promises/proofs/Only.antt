@@ -114,7 +114,7 @@ pub done : (x : World) (a : Access) → accepted x a ≡ true → statusAt x a �
 unfolding accepted
 done x a e = eqb-true (statusAt x a) 0 e
 
-no-store : (q : Spot) → putsBit q none ≡ none
+pub no-store : (q : Spot) → putsBit q none ≡ none
 unfolding putsBit
 no-store q = refl
 

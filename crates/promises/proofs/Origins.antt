@@ -39,7 +39,7 @@ use Rattle.promises.specs.Origin.{broughtBit, bitPut, bytePut}
 use Rattle.promises.proofs.Does.{storeFrom, putsFrom, writes, does}
 use Rattle.promises.proofs.Sites.{names}
 use Rattle.promises.proofs.Pokes.{LanePut, lane-put}
-use Rattle.promises.proofs.Only.{done, quiet}
+use Rattle.promises.proofs.Only.{done, no-store, quiet}
 use Rattle.promises.proofs.Worlds.{opens}
 
 -- ---- what the reset tables state
@@ -95,10 +95,6 @@ row-value s a (some i) q c h e =
     z .1 ∙ ap some
     (ap (λ (k : ℕ). bit (q .b) (broughtWord (bankRow k) (a .word))) (z .0)
     ∙ brought-bit (bankRow (q .row)) (q .b) (a .word) (h .bit) (clears-below (bankRow (q .row)) (bank-rule (q .row) (h .row) .bits)))
-
-no-store : (q : Spot) → putsBit q none ≡ none
-unfolding putsBit
-no-store q = refl
 
 pub puts-stores : (y : World) (a : Access) (q : Spot) (c : Option Bool) → Good y → Real q → bitPut q y a ≡ some c → Puts y a q c
 puts-stores y a q c g h e =

@@ -1,10 +1,10 @@
 -- What puts something into a register's bit or a memory byte is an accepted write that reaches it, and what it puts is the write's.
 -- An access that does not reach puts nothing; what it puts is read off what it stores. Assumes nothing.
 use Prim.Native.Nat.{ℕ, _^_, _<_}
-use mathlib.Core.Bool.{Bool, true, false, not, _&&_}
+use mathlib.Core.Bool.{Bool, true, not, _&&_}
 use mathlib.Core.List.{List}
 use mathlib.Core.Option.{Option, none, some, Option·getD}
-use mathlib.Core.Path.{_≡_, refl, sym, ap, ap₂, _∙_, subst}
+use mathlib.Core.Path.{_≡_, refl, sym, ap, ap₂, _∙_}
 use native.Mathlib.Omega.{arith}
 use borrow.Author.Tests.{eqb-true}
 use lib.Bits.{or-add-and, and-le-l}
@@ -18,13 +18,10 @@ use Rattle.bits.proofs.Bools.{and-first, and-second}
 use Rattle.bits.proofs.Words.{clear-not, bit-outside}
 use Rattle.chip.specs.declared.State.{State}
 use Rattle.chip.specs.declared.Access.{Access}
-use Rattle.chip.specs.declared.Place.{Place}
 use Rattle.chip.specs.declared.Place.the-variants.{Window}
 use Rattle.chip.specs.Row.{Row}
-use Rattle.chip.specs.Bank.{bankCount, bankRow}
+use Rattle.chip.specs.Bank.{bankRow}
 use Rattle.chip.specs.Register.{mayChange, broughtWord}
-use Rattle.chip.specs.Subsystem.{storedBits}
-use Rattle.chip.specs.Patch.{Store}
 use Rattle.chip.specs.Place.{placeOf}
 use Rattle.chip.specs.Port.{rowPatch, pokePatch}
 use Rattle.chip.specs.Refusal.{isWrite}
@@ -33,7 +30,7 @@ use Rattle.chip.specs.Trace.{World, opened}
 use Rattle.chip.proofs.Tables.{bank-rule, resets-at, knowns-at}
 use Rattle.promises.specs.Good.{Good, statusAt, Openable}
 use Rattle.promises.specs.Reach.{reachAt}
-use Rattle.promises.specs.History.{accepted, patchAt, seenBit, Spot, Real, holds, stated, putsBit, lastPoke}
+use Rattle.promises.specs.History.{accepted, seenBit, Spot, Real, holds, stated, putsBit, lastPoke}
 use Rattle.promises.specs.Frame.{reaches}
 use Rattle.promises.specs.Origin.{broughtBit, bitPut, bytePut}
 use Rattle.promises.proofs.Does.{storeFrom, putsFrom, writes, does}

@@ -3,7 +3,7 @@
 use Prim.Native.Nat.{ℕ}
 use mathlib.Core.Bool.{Bool, true, false, _&&_}
 use mathlib.Core.Option.{Option, none, some}
-use mathlib.Core.Path.{_≡_, refl, ap, _∙_}
+use mathlib.Core.Path.{_≡_, refl, ap}
 use lib.Dec.{eqb}
 use Rattle.chip.specs.declared.Colour.{Colour}
 use Rattle.chip.specs.declared.Dac.{Dac}

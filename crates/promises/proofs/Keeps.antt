@@ -1,16 +1,14 @@
 -- What an accepted access stores keeps a state a state.
 -- The tests of refusal 1 one by one, each by the part of the patch that it asks for. Assumes nothing.
 use Prim.Native.Nat.{ℕ, _<_}
-use mathlib.Core.Bool.{Bool, true, false, _&&_}
-use mathlib.Core.List.{List}
+use mathlib.Core.Bool.{Bool, true, false}
 use mathlib.Core.Option.{Option, none, some, Option·getD}
-use mathlib.Core.Path.{_≡_, refl, sym, ap, ap₂, _∙_, subst}
+use mathlib.Core.Path.{_≡_, sym, _∙_, subst}
 use native.Mathlib.Omega.{arith}
 use borrow.Author.Tests.{leb-true}
 use lib.ListN.{length, length-set}
 use Rattle.bits.specs.Choose.{pick}
 use Rattle.bits.specs.Bit.{bit}
-use Rattle.bits.specs.Word.{laneByte}
 use Rattle.bits.proofs.Cases.{pick-by, pick-when}
 use Rattle.bits.proofs.Bools.{and-first, and-second}
 use Rattle.chip.specs.declared.State.{State}
@@ -19,7 +17,7 @@ use Rattle.chip.specs.declared.Dac.{Dac}
 use Rattle.chip.specs.declared.Palette.{Palette}
 use Rattle.chip.specs.Palette.{paletteOk}
 use Rattle.chip.specs.Bank.{bankCount}
-use Rattle.chip.specs.Dac.{Paint, aimedAt, afterPeek, afterPaint}
+use Rattle.chip.specs.Dac.{Paint, afterPeek}
 use Rattle.chip.specs.Patch.{Store, Patch, valued, learned, painted, applied}
 use Rattle.chip.specs.Place.{placeOf}
 use Rattle.chip.specs.Port.{rowPatch, keptFrom}
@@ -33,7 +31,7 @@ use Rattle.promises.specs.History.{accepted, patchAt, isAim, isData}
 use Rattle.promises.proofs.Sane.{Sane, sane}
 use Rattle.promises.proofs.Bank.{bank-kept, once-kept}
 use Rattle.promises.proofs.Dacs.{Settled, paint-advances, advanced-settled, aimed-settled, lane-byte-lt}
-use Rattle.promises.proofs.Does.{storeFrom, onceFrom, stepped, writes, Does, does}
+use Rattle.promises.proofs.Does.{storeFrom, onceFrom, stepped, writes, does}
 use Rattle.promises.proofs.Sites.{names, address-there}
 
 pub record Kept (s : State) : Type 0 where

@@ -13,7 +13,7 @@ use Rattle.bits.specs.Choose.{pick, everyTo}
 use Rattle.bits.specs.Bit.{bit}
 use Rattle.bits.specs.Word.{lanesOf}
 use Rattle.bits.proofs.Cases.{byTest, pick-when}
-use Rattle.bits.proofs.Bools.{and-first, and-second, and-both, clash, every-at}
+use Rattle.bits.proofs.Bools.{and-first, and-second, every-at}
 use Rattle.bits.proofs.Words.{clear-not, bit-inside, bit-joined, bit-outside, lane-bit, beq-true}
 use Rattle.chip.specs.declared.State.{State}
 use Rattle.chip.specs.declared.Access.{Access}
@@ -114,7 +114,7 @@ pub done : (x : World) (a : Access) → accepted x a ≡ true → statusAt x a �
 unfolding accepted
 done x a e = eqb-true (statusAt x a) 0 e
 
-no-store : (q : Spot) → putsBit q none ≡ none
+pub no-store : (q : Spot) → putsBit q none ≡ none
 unfolding putsBit
 no-store q = refl
 

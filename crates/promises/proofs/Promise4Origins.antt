@@ -1,7 +1,7 @@
 -- Promise 4. Where a known bit comes from, after an opening and any list of accesses: the reset tables, PCI's rule for offsets without a register, memory as
 -- lent, accepted writes of the list, and the palette address since it was set; nothing else is ever shown as known, and each has the value last stored.
 -- From the law of a place along any list (Along), one step at a time (Contents), and what a read shows (Shown). Assumes nothing.
-use Prim.Native.Nat.{ℕ, zero, suc, _+_, _/_, _%_, _<_}
+use Prim.Native.Nat.{ℕ, zero, suc, _/_, _%_, _<_}
 use mathlib.Core.Bool.{Bool, false}
 use mathlib.Core.List.{List}
 use mathlib.Core.Logic.{_⊎_, inl, inr}

@@ -1,9 +1,9 @@
 -- What an answer shows, bit by bit: the bit of what the access sees, in an enabled lane, and nothing elsewhere.
 -- From the definition of the answer and the laws of lanes; then by the place that the read leads to. Assumes nothing.
-use Prim.Native.Nat.{ℕ, _+_, _/_, _%_, _<_}
+use Prim.Native.Nat.{ℕ, _/_, _%_, _<_}
 use mathlib.Core.Bool.{Bool, true, false, _&&_}
 use mathlib.Core.Option.{Option, none, some}
-use mathlib.Core.Path.{_≡_, refl, ap, ap₂, _∙_, subst}
+use mathlib.Core.Path.{_≡_, refl, ap, ap₂, _∙_}
 use native.Mathlib.Omega.{arith}
 use borrow.Author.Tests.{eq-eqb, leb-true, not-false}
 use lib.Dec.{leb}

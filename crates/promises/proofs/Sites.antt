@@ -1,11 +1,11 @@
 -- A place by what it reaches, and where it can be found: a row that there is, palette data only where the address is known.
 -- By the places, and by the choices of which a place is made. Assumes nothing.
 use Prim.Native.Nat.{ℕ, _<_}
-use mathlib.Core.Bool.{Bool, true, false}
+use mathlib.Core.Bool.{true, false}
 use mathlib.Core.Option.{Option, none, some}
 use mathlib.Core.Path.{_≡_, refl, sym, ap, _∙_, subst}
 use native.Mathlib.Omega.{arith}
-use borrow.Author.Tests.{eqb-true, eq-eqb, ltb-true}
+use borrow.Author.Tests.{eqb-true, ltb-true}
 use lib.Dec.{eqb, ltb, leb}
 use Rattle.bits.proofs.Bools.{clash}
 use Rattle.bits.proofs.Cases.{byTest, pick-by, pick-when}

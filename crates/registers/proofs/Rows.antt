@@ -7,7 +7,6 @@ use mathlib.Core.Option.{Option·getD}
 use mathlib.Core.Path.{_≡_, refl, sym, ap, ap₂, _∙_}
 use native.Mathlib.Omega.{arith}
 use borrow.Author.Tests.{eqb-true, eqb-false, ne-eqb}
-use lib.Bits.{or-zero-l}
 use lib.Dec.{eqb}
 use lib.ListN.{getD, length, length-map, set}
 use lib.Seq.{getD-set-same, getD-set-other}
@@ -16,6 +15,7 @@ use Rattle.bits.specs.Bit.{bit}
 use Rattle.bits.specs.Word.{joined, lanesOf}
 use Rattle.bits.proofs.Cases.{byTest}
 use Rattle.bits.proofs.Gathers.{every-same}
+use Rattle.bits.proofs.Words.{joined-zero}
 use Rattle.bits.proofs.Lists.{getD-map}
 use Rattle.chip.specs.Row.{Row, absent}
 use Rattle.chip.specs.Region.{regionRows}
@@ -70,17 +70,13 @@ none-writable = refl
 clears-length : length clears ≡ bankCount
 clears-length = length-map bankRows (λ (r : Row). r .clears) ∙ bank-length
 
-joined-none : (m : ℕ) → joined 0 m ≡ m
-unfolding joined
-joined-none m = or-zero-l m
-
 -- what refusal 1 exempts, by the columns, with the fixed subsystem numbers at their row
 exempt-at : (once i : ℕ) → joined (getD writable i 0) (getD (set clears subsystem (halfBits once)) i 0) ≡ exempt once i
 unfolding exempt mayChange
 exempt-at once i =
     byTest (eqb i subsystem)
     (λ e. rw (eqb-true i subsystem e)
-    (ap₂ joined (writable-at subsystem ∙ none-writable) (getD-set-same clears subsystem _ 0 (omega (arith, clears-length))) ∙ joined-none (halfBits once)))
+    (ap₂ joined (writable-at subsystem ∙ none-writable) (getD-set-same clears subsystem _ 0 (omega (arith, clears-length))) ∙ joined-zero (halfBits once)))
     (λ e. simp e (ap₂ joined (writable-at i) (getD-set-other clears subsystem i _ 0 (eqb-false i subsystem e) ∙ clears-at i)))
 
 same-row : (once : ℕ) (vs ks : List ℕ) (i : ℕ)

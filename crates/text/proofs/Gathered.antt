@@ -8,12 +8,12 @@ use native.Mathlib.Omega.{arith}
 use borrow.Author.Tests.{leb-true, leb-false}
 use lib.Dec.{leb}
 use lib.ListN.{length, take, drop, length-append}
-use lib.Seq.{length-sets, sets-eq, take-all, take-at, length-take-le, take-append-le, take-append-add}
+use lib.Seq.{sets-eq, take-all, take-at, length-take-le, take-append-le, take-append-add}
 use Rattle.bits.proofs.Cases.{byTest}
 use Rattle.text.specs.declared.Taken.{Taken}
 use Rattle.text.specs.Gather.{partOf, Gathers, Holds}
 use Rattle.text.specs.Line.{lineOf}
-use Rattle.text.proofs.GatherLaws.{sets-past, copy-all}
+use Rattle.text.proofs.GatherLaws.{sets-past, copy-all, gathers-length}
 use Rattle.text.proofs.LineLaws.{line-long}
 
 -- nothing of a line is held at its start
@@ -36,9 +36,6 @@ counted a b c held r c′ ab k s q e u =
 
 module _ {chunk : List ℕ} {from : ℕ} {l : List ℕ} {held : ℕ} {r : Taken} {l′ : List ℕ} (line : List ℕ)
     (h : Holds l held line) (g : Gathers chunk from l held r l′) where
-  long : length l′ ≡ length l
-  long = ap length (g .bytes) ∙ length-sets l held (partOf chunk from)
-
   -- the buffer has room behind the line
   room : length line ≤ length l → Holds l′ (r .held) (line ++ partOf chunk from)
   room s =
@@ -55,7 +52,7 @@ module _ {chunk : List ℕ} {from : ℕ} {l : List ℕ} {held : ℕ} {r : Taken}
       let size : length (take held l ++ take m p) ≡ r .held = length-append (take held l) (take m p) ∙ (omega arith) in
       let reach : length line + m ≡ r .held = omega arith in
       record {
-        count = counted (length line) (length p) (length l) held (r .held) (length l′) (length (line ++ p)) k s q long (length-append line p);
+        count = counted (length line) (length p) (length l) held (r .held) (length l′) (length (line ++ p)) k s q (gathers-length g) (length-append line p);
         same =
             ap (take (r .held)) (g .bytes ∙ sym (copy-all p l held (length l - held) m refl refl) ∙ sets-eq (take m p) l held (omega arith)) ∙ take-at (take held l ++ take m p) (drop (held + length (take m p)) l) (r .held) size ∙ whole ∙ sym (take-append-add line p m) ∙ ap (λ (n : ℕ). take n (line ++ p)) reach;
       }
@@ -70,7 +67,7 @@ module _ {chunk : List ℕ} {from : ℕ} {l : List ℕ} {held : ℕ} {r : Taken}
       let z : r .held ≡ held = omega arith in
       let a = length-append line p in
       record {
-        count = z ∙ k ∙ sym long ∙ sym (min-eq-right (let e = long in omega arith));
+        count = z ∙ k ∙ sym (gathers-length g) ∙ sym (min-eq-right (let e = gathers-length g in omega arith));
         same =
             ap (take (r .held)) (g .bytes ∙ sets-past p l held (omega arith)) ∙ ap (λ (n : ℕ). take n l) z ∙ h .same ∙ sym (take-append-le held line p (omega arith)) ∙ ap (λ (n : ℕ). take n (line ++ p)) (sym z);
       }

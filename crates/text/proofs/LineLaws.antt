@@ -187,20 +187,21 @@ byte-long b [] n = refl
 byte-long b (c ∷ []) n = absurd (n refl)
 byte-long b (c ∷ d ∷ f) n = refl
 
+-- a line whose first field is no target, or neither kind
+no-target : (l : List ℕ) (w : ℕ) → targetIn (upTo 32 l) ≡ 10 → Bad ≡ targetNext w (fieldsOf l)
+unfolding targetNext
+no-target l w e = fields-front (λ (k : List (List ℕ)). Bad ≡ targetNext w k) l (λ fs. simp e)
+
+no-kind : (l : List ℕ) → isByte 114 (upTo 32 l) ≡ false → isByte 119 (upTo 32 l) ≡ false → Bad ≡ kindFirst (fieldsOf l)
+unfolding kindFirst
+no-kind l e f = fields-front (λ (k : List (List ℕ)). Bad ≡ kindFirst k) l (λ fs. simp (e, f))
+
 module _ (l : List ℕ) (d : ℕ) (q : d ≡ length (upTo 32 l)) where
   pub target-none : (w : ℕ) → (d ≡ 1 → ⊥) → Bad ≡ targetNext w (fieldsOf l)
-  unfolding targetNext
-  target-none w n = fields-front (λ (k : List (List ℕ)). Bad ≡ targetNext w k) l none
-    where
-      none : (fs : List (List ℕ)) → Bad ≡ targetNext w (upTo 32 l ∷ fs)
-      none fs = simp (target-long (upTo 32 l) (λ e. n (q ∙ e)))
+  target-none w n = no-target l w (target-long (upTo 32 l) (λ e. n (q ∙ e)))
 
   pub kind-none : (d ≡ 1 → ⊥) → Bad ≡ kindFirst (fieldsOf l)
-  unfolding kindFirst
-  kind-none n = fields-front (λ (k : List (List ℕ)). Bad ≡ kindFirst k) l none
-    where
-      none : (fs : List (List ℕ)) → Bad ≡ kindFirst (upTo 32 l ∷ fs)
-      none fs = simp (byte-long 114 (upTo 32 l) (λ e. n (q ∙ e)), byte-long 119 (upTo 32 l) (λ e. n (q ∙ e)))
+  kind-none n = no-kind l (byte-long 114 (upTo 32 l) (λ e. n (q ∙ e))) (byte-long 119 (upTo 32 l) (λ e. n (q ∙ e)))
 
   module _ (o : d ≡ 1) where
     single : upTo 32 l ≡ getD l 0 0 ∷ []
@@ -211,14 +212,8 @@ module _ (l : List ℕ) (d : ℕ) (q : d ≡ length (upTo 32 l)) where
     target-is = ap targetIn single
 
     pub target-bad : (w v : ℕ) → v ≡ digitOf (getD l 0 0) → 9 < v → Bad ≡ targetNext w (fieldsOf l)
-    unfolding targetNext
-    target-bad w v u h = fields-front (λ (k : List (List ℕ)). Bad ≡ targetNext w k) l none
-      where
-        ten : targetIn (upTo 32 l) ≡ 10
-        ten = target-is ∙ simp (le-ltb (digitOf (getD l 0 0)) 10 (subst (λ (k : ℕ). 10 ≤ k) u (omega arith)))
-
-        none : (fs : List (List ℕ)) → Bad ≡ targetNext w (upTo 32 l ∷ fs)
-        none fs = simp ten
+    target-bad w v u h =
+        no-target l w (target-is ∙ simp (le-ltb (digitOf (getD l 0 0)) 10 (subst (λ (k : ℕ). 10 ≤ k) u (omega arith))))
 
     pub target-last : (w : ℕ) → length l ≡ 1 → Bad ≡ targetNext w (fieldsOf l)
     unfolding targetNext offsetNext
@@ -266,11 +261,7 @@ module _ (l : List ℕ) (d : ℕ) (q : d ≡ length (upTo 32 l)) where
         (simp (kind-is 114 ∙ ne-eqb (getD l 0 0) 114 a, kind-is 119 ∙ eq-eqb (getD l 0 0) 119 c, p))
 
     pub kind-other : (getD l 0 0 ≡ 114 → ⊥) → (getD l 0 0 ≡ 119 → ⊥) → Bad ≡ kindFirst (fieldsOf l)
-    unfolding kindFirst
-    kind-other a c = fields-front (λ (k : List (List ℕ)). Bad ≡ kindFirst k) l none
-      where
-        none : (fs : List (List ℕ)) → Bad ≡ kindFirst (upTo 32 l ∷ fs)
-        none fs = simp (kind-is 114 ∙ ne-eqb (getD l 0 0) 114 a, kind-is 119 ∙ ne-eqb (getD l 0 0) 119 c)
+    kind-other a c = no-kind l (kind-is 114 ∙ ne-eqb (getD l 0 0) 114 a) (kind-is 119 ∙ ne-eqb (getD l 0 0) 119 c)
 
 -- ---- the length
 

@@ -113,7 +113,7 @@ fn say_refusal(status: u32) {
     say(b": refused as ");
     say_number(status);
     match status {
-        1 => say(b", the state is none\n"),
+        1 => say(b", not a state\n"),
         2 => say(b", a lent buffer has the wrong length\n"),
         3 => say(b", no such target, or enables above 15\n"),
         4 => say(b", the offset is no multiple of 4\n"),

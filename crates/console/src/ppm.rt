@@ -1,6 +1,5 @@
 // A picture as a binary PPM file: three bytes a dot, row after row.
 use text::shown::colour;
-ghost use mathlib.Core.Path.{_≡_};
 ghost use Prim.Native.Nat.{_+_, _*_, _-_, _≤_};
 ghost use lib.ListN.{length};
 

@@ -3,15 +3,15 @@
 use Prim.Native.Nat.{ℕ, _*_}
 use mathlib.Core.Bool.{Bool, true, false, not, _&&_}
 use mathlib.Core.List.{List, []}
-use mathlib.Core.Option.{Option, Option·getD}
+use mathlib.Core.Option.{Option·getD}
 use mathlib.Core.Path.{_≡_, refl, sym, ap, ap₂, _∙_, subst}
-use borrow.Author.Tests.{eq-eqb, ne-eqb, not-false}
+use borrow.Author.Tests.{eq-eqb, ne-eqb}
 use lib.Dec.{eqb, ltb, leb}
 use lib.ListN.{getD, length}
 use Rattle.bits.specs.Choose.{pick}
 use Rattle.bits.specs.Word.{lanesOf}
 use Rattle.bits.proofs.Cases.{pick-by}
-use Rattle.bits.proofs.Bools.{and-second, and-both}
+use Rattle.bits.proofs.Bools.{and-both}
 use Rattle.bits.proofs.Words.{inside-zero}
 use Rattle.chip.specs.declared.State.{State}
 use Rattle.chip.specs.declared.Access.{Access}
@@ -20,19 +20,19 @@ use Rattle.chip.specs.declared.Answer.{Answer}
 use Rattle.chip.specs.declared.Seen.{Seen}
 use Rattle.chip.specs.declared.Place.{Place}
 use Rattle.chip.specs.declared.Place.the-variants.{Register, Address, PaletteData, Window, Blank, Nowhere}
-use Rattle.chip.specs.Aperture.{Put, putsOf, putAll}
+use Rattle.chip.specs.Aperture.{putsOf, putAll}
 use Rattle.chip.specs.Bank.{regionCount, indirectFirst, regionAt, headerAt, indirectAt, indirectEntry, apertureOne, apertureTwo}
 use Rattle.chip.specs.Dac.{addressKnown}
 use Rattle.chip.specs.Units.{atByte}
-use Rattle.chip.specs.Sound.{panelOk, isState}
+use Rattle.chip.specs.Sound.{panelOk}
 use Rattle.chip.specs.Patch.{Patch, applied, memoryWith}
 use Rattle.chip.specs.Place.{dataPlace, indexedPlace, regionPlace, headerPlace, placeAt, placeOf}
-use Rattle.chip.specs.Port.{Port, seen, knownIn, wordIn, rowPatch, aimPatch, paintPatch, pokePatch, portAt}
-use Rattle.chip.specs.Refusal.{isWrite, portOf, laterLines, accessLines, statusOf}
+use Rattle.chip.specs.Port.{seen, knownIn, wordIn, rowPatch, aimPatch, paintPatch, pokePatch, portAt}
+use Rattle.chip.specs.Refusal.{isWrite, portOf, statusOf}
 use Rattle.chip.specs.Picture.{wordOf}
 use Rattle.chip.specs.Step.{Outcome, Gives, answered, refused, settled, seenBy, patchOf, stateAfter, memoryAfter, doneBy, givenBy, stepOf}
-use Rattle.chip.proofs.Lines.{none-holds}
-use Rattle.chip.proofs.Ports.{stepOnly, read-steps}
+use Rattle.chip.proofs.Refusals.{unrefused}
+use Rattle.chip.proofs.Ports.{read-steps}
 use Rattle.picture.specs.Draw.{fits, Redraws}
 use Rattle.picture.proofs.Parts.{still-redraws}
 use Rattle.model.specs.Parts.{QuietUnless}
@@ -200,14 +200,12 @@ module _ (s : State) (m l : List ℕ) (a : Access) (p : Place) (n : ℕ) (f : Fo
 
   -- what is not refused has a picture that fits its panel
   pub step-fits : n ≡ 0 → fits s s (length l) ≡ true
-  unfolding statusOf accessLines laterLines fits
+  unfolding fits
   step-fits h =
-      let e : statusOf s (length m) (length l) a ≡ 0 = sym en ∙ h in
-      let one = not-false (isState s) (none-holds (accessLines s (length m) (length l) a) refl e 0) in
-      let two = not-false (eqb (length m) (s .fitted) && eqb (length l) (s .width * s .height)) (none-holds (accessLines s (length m) (length l) a) refl e 1) in
-      and-both (panelOk (s .width) (s .height)) (eqb (s .width) (s .width) && eqb (length l) (s .width * s .height)) (panel-of s one)
+      let u = unrefused s (length m) (length l) a (sym en ∙ h) in
+      and-both (panelOk (s .width) (s .height)) (eqb (s .width) (s .width) && eqb (length l) (s .width * s .height)) (panel-of s (u .state))
       (and-both (eqb (s .width) (s .width)) (eqb (length l) (s .width * s .height)) (eq-eqb (s .width) (s .width) refl)
-      (and-second (eqb (length m) (s .fitted)) (eqb (length l) (s .width * s .height)) two))
+      (eq-eqb (length l) (s .width * s .height) (u .picture)))
 
 module _ (s : State) (m l : List ℕ) (a : Access) (p : Place) (n : ℕ) (f : Found s m l a p n) (r : Answer) where
   pub step-refused : (n ≡ 0 → ⊥) → r ≡ answered n 0 0 0 s → Gives (stepOf s m l a) r m l

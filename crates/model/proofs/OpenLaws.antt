@@ -1,11 +1,11 @@
 -- The refusals of an opening line by line, the reset state from its parts, the fill of the picture, and the opening put together.
 -- By cases on the tests, field by field, and dot by dot. Assumes nothing.
 use Prim.Native.Nat.{ℕ, _+_, _*_, _%_, _<_, _≤_}
-use mathlib.Core.Bool.{Bool, true, false, not, _&&_}
+use mathlib.Core.Bool.{Bool, true, false, _&&_}
 use mathlib.Core.List.{List}
 use mathlib.Core.Path.{_≡_, refl, sym, ap, ap₂, _∙_, subst}
 use native.Mathlib.Omega.{arith}
-use borrow.Author.Tests.{eqb-true, eqb-false, eq-eqb, ne-eqb, leb-true, not-false}
+use borrow.Author.Tests.{eqb-true, eqb-false, eq-eqb, ne-eqb, leb-true}
 use lib.Dec.{eqb, leb}
 use lib.ListN.{getD, set, length, replicate, length-set, length-replicate, getD-replicate}
 use lib.Seq.{getD-set-same, getD-set-other, ext-getD}
@@ -23,7 +23,7 @@ use Rattle.chip.specs.Bank.{bankResets, bankKnowns}
 use Rattle.chip.specs.State.{resetState}
 use Rattle.chip.specs.Refusal.{openingLines, openingStatus}
 use Rattle.chip.specs.Step.{Opening, Opens, blankWord, openOf}
-use Rattle.chip.proofs.Lines.{none-holds}
+use Rattle.chip.proofs.Refusals.{unrefused-opening}
 use Rattle.picture.proofs.FitLaws.{panel-product}
 
 -- ---- the refusals
@@ -48,17 +48,15 @@ module _ (w h ml pl : ℕ) (x : Bool) (ex : x ≡ panelOk w h) where
 
 -- an opening that is not refused has memory within the limits
 pub opens-small : (w h ml pl n : ℕ) → n ≡ openingStatus w h ml pl → n ≡ 0 → ml ≤ 8388608
-unfolding openingStatus openingLines memoryOk
+unfolding memoryOk
 opens-small w h ml pl n e z =
-    let m = not-false (memoryOk ml) (none-holds (openingLines w h ml pl) refl (sym e ∙ z) 1) in
+    let m = unrefused-opening w h ml pl (sym e ∙ z) .memory in
     leb-true ml 8388608 (and-second (leb 8 ml) (leb ml 8388608) (and-second (eqb (ml % 8) 0) (leb 8 ml && leb ml 8388608) m))
 
 pub opens-dots : (w h ml pl n : ℕ) → n ≡ openingStatus w h ml pl → n ≡ 0 → pl ≤ 0x100000
-unfolding openingStatus openingLines
 opens-dots w h ml pl n e z =
-    let q = not-false (panelOk w h) (none-holds (openingLines w h ml pl) refl (sym e ∙ z) 0) in
-    let d = eqb-true pl (w * h) (not-false (eqb pl (w * h)) (none-holds (openingLines w h ml pl) refl (sym e ∙ z) 2)) in
-    omega (arith, panel-product w h q)
+    let u = unrefused-opening w h ml pl (sym e ∙ z) in
+    omega (arith, u .dots, panel-product w h (u .panel))
 
 -- ---- the reset state
 

@@ -2,11 +2,10 @@
 -- Field by field. Assumes nothing.
 use Prim.Native.Nat.{ℕ}
 use mathlib.Core.List.{List}
-use mathlib.Core.Path.{_≡_, refl, ap, ap₂, _∙_}
+use mathlib.Core.Path.{_≡_, ap, ap₂, _∙_}
 use lib.ListN.{getD}
 use Rattle.chip.specs.declared.State.{State}
 use Rattle.chip.specs.declared.Access.{Access}
-use Rattle.chip.specs.declared.Seen.{Seen}
 use Rattle.chip.specs.declared.Place.the-variants.{Register, Window}
 use Rattle.chip.specs.Port.{seen, portAt}
 use Rattle.chip.specs.Aperture.{wordFrom}

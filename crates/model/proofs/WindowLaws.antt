@@ -2,7 +2,7 @@
 -- No dot's byte is in two lanes, so no dot changes twice, and the counts add up. Assumes nothing.
 use Prim.Native.Nat.{ℕ, _+_, _%_, _/_, _<_, _≤_}
 use mathlib.Core.Bool.{Bool, true, false}
-use mathlib.Core.List.{List, [], _∷_}
+use mathlib.Core.List.{List, []}
 use mathlib.Core.Logic.{_⊎_, inl, inr}
 use mathlib.Core.Path.{_≡_, refl, sym, ap, ap₂, _∙_, subst}
 use native.Mathlib.Nat.{le-refl, mul-comm}
@@ -11,7 +11,6 @@ use borrow.Author.Tests.{eqb-true, eqb-false, eq-eqb}
 use lib.Dec.{eqb}
 use lib.ListN.{getD, set, length, length-set}
 use lib.Seq.{getD-set-other, ext-getD}
-use Rattle.bits.specs.Choose.{pick}
 use Rattle.bits.specs.Bit.{bit}
 use Rattle.bits.specs.Word.{laneByte}
 use Rattle.bits.proofs.Cases.{byTest, pick-by}

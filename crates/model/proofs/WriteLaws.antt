@@ -2,11 +2,10 @@
 -- The pieces put in place of their definitions. Assumes nothing.
 use Prim.Native.Nat.{ℕ}
 use mathlib.Core.Bool.{Bool, true, false}
-use mathlib.Core.Option.{Option, some, none, Option·getD}
-use mathlib.Core.Path.{_≡_, refl, sym, ap, ap₂, _∙_}
+use mathlib.Core.Option.{Option·getD}
+use mathlib.Core.Path.{_≡_, sym, ap, ap₂, _∙_}
 use lib.Dec.{eqb}
 use borrow.Author.Tests.{ne-eqb}
-use Rattle.bits.specs.Choose.{pick}
 use Rattle.bits.specs.Bit.{bit}
 use Rattle.bits.specs.Word.{laneByte}
 use Rattle.chip.specs.declared.State.{State}
@@ -16,7 +15,7 @@ use Rattle.chip.specs.declared.Palette.{Palette}
 use Rattle.chip.specs.declared.Place.the-variants.{Address, PaletteData}
 use Rattle.chip.specs.Bank.{screenBase, screenStride, pixelMask, colorMode}
 use Rattle.chip.specs.Dac.{aimedAt, afterPeek, afterPaint, completedBy}
-use Rattle.chip.specs.Patch.{Patch, painted, applied}
+use Rattle.chip.specs.Patch.{painted, applied}
 use Rattle.chip.specs.Port.{aimPatch, peekPatch, keptFrom, paintPatch, portAt}
 use Rattle.model.specs.Parts.{rowShows}
 

@@ -1,7 +1,6 @@
 // A write through an aperture: each enabled lane's byte, and the dots that show it.
 ghost use mathlib.Core.Path.{_≡_};
 ghost use mathlib.Core.Bool.{true};
-ghost use Prim.Native.Nat.{ℕ, _<_};
 ghost use lib.ListN.{getD, length};
 ghost use Rattle.chip.specs.Units.{atByte};
 ghost use Rattle.chip.specs.Aperture.{putsOf, putAll};

@@ -1,13 +1,12 @@
 -- Where two tables differ, found entry by entry. By the cases of what was found. Assumes nothing.
-use Prim.Native.Nat.{ℕ, _+_, _<_, _≤_}
-use mathlib.Core.Bool.{Bool, true, false, not, _&&_}
+use Prim.Native.Nat.{ℕ, _+_, _≤_}
+use mathlib.Core.Bool.{false, _&&_}
 use mathlib.Core.List.{List}
 use mathlib.Core.Path.{_≡_, refl, sym, ap, subst, _∙_}
 use native.Mathlib.Omega.{arith}
 use borrow.Author.Tests.{eqb-true, eqb-false, not-true}
 use lib.Dec.{eqb}
 use lib.ListN.{getD}
-use Rattle.bits.specs.Choose.{pick}
 use Rattle.bits.proofs.Bools.{clash, and-first, and-second}
 use Rattle.bits.proofs.Cases.{byTest}
 use Rattle.picture.specs.declared.entry.Differ.{Differ}

@@ -1,7 +1,7 @@
 -- What a store of one byte does to the dots' words: those whose byte it is go from the old byte's word to the new one's, and no other changes.
 -- From the rules, by where a dot's byte lies. Assumes nothing.
 use Prim.Native.Nat.{ℕ, _+_, _/_, _%_, _<_, _≤_}
-use mathlib.Core.Bool.{Bool, true, false}
+use mathlib.Core.Bool.{true, false}
 use mathlib.Core.List.{List}
 use mathlib.Core.Path.{_≡_, refl, sym, ap, ap₂, _∙_}
 use native.Mathlib.Omega.{arith}
@@ -17,7 +17,7 @@ use Rattle.chip.specs.Units.{atByte}
 use Rattle.chip.specs.Palette.{entryOf}
 use Rattle.chip.specs.View.{baseOf, strideOf, maskOf, fixedOf, viewOf}
 use Rattle.chip.specs.Picture.{rowStart, dotByte, ruled, beyond, colourWord, dotEntry, underByte, underAt, laidAt, wordAt, viewWord, wordOf, chosen}
-use Rattle.picture.specs.Draw.{fits, Redraws, Part, shownOf, shownWord}
+use Rattle.picture.specs.Draw.{fits, Part, shownOf, shownWord}
 use Rattle.picture.specs.declared.view.Shown.{Shown}
 use Rattle.picture.specs.Poke.{Pokes, byteWord, rowByte, hits}
 use Rattle.picture.proofs.Parts.{part-like, part-redraws, no-redraw, still-redraws}

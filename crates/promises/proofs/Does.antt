@@ -15,7 +15,7 @@ use Rattle.chip.specs.declared.Access.{Access}
 use Rattle.chip.specs.declared.Dac.{Dac}
 use Rattle.chip.specs.declared.Place.{Place}
 use Rattle.chip.specs.declared.Place.the-variants.{Register, Address, PaletteData, Window, Blank, Nowhere}
-use Rattle.chip.specs.Dac.{Paint, aimedAt, afterPeek, afterPaint, completedBy}
+use Rattle.chip.specs.Dac.{aimedAt, afterPeek, afterPaint, completedBy}
 use Rattle.chip.specs.Aperture.{Put}
 use Rattle.chip.specs.Patch.{Store}
 use Rattle.chip.specs.Place.{placeOf}

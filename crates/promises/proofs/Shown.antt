@@ -5,13 +5,12 @@ use mathlib.Core.Bool.{Bool, true, false, _&&_}
 use mathlib.Core.Option.{Option, none, some}
 use mathlib.Core.Path.{_≡_, refl, ap, ap₂, _∙_}
 use native.Mathlib.Omega.{arith}
-use borrow.Author.Tests.{eq-eqb, leb-true, not-false}
-use lib.Dec.{leb}
+use borrow.Author.Tests.{eq-eqb}
 use lib.ListN.{getD}
 use Rattle.bits.specs.Choose.{pick, everyTo}
 use Rattle.bits.specs.Bit.{bit}
 use Rattle.bits.specs.Word.{full}
-use Rattle.bits.proofs.Bools.{and-second, every-at}
+use Rattle.bits.proofs.Bools.{every-at}
 use Rattle.bits.proofs.Single.{bit-of-zero}
 use Rattle.bits.proofs.Words.{bit-inside, lane-bit}
 use Rattle.bits.proofs.Lanes.{bit-lane}
@@ -26,10 +25,10 @@ use Rattle.chip.specs.Aperture.{readLane, wordFrom}
 use Rattle.chip.specs.Units.{atByte}
 use Rattle.chip.specs.Place.{placeOf}
 use Rattle.chip.specs.Port.{seenPart, knownIn, wordIn, wide, portAt}
-use Rattle.chip.specs.Refusal.{isWrite, portOf, laterLines, accessLines, statusOf}
+use Rattle.chip.specs.Refusal.{isWrite, portOf, statusOf}
 use Rattle.chip.specs.Step.{settled, seenBy, doneBy, givenBy, stepOf}
 use Rattle.chip.specs.Trace.{World, step}
-use Rattle.chip.proofs.Lines.{none-holds}
+use Rattle.chip.proofs.Refusals.{unrefused}
 use Rattle.chip.proofs.Lent.{lane-read}
 use Rattle.promises.specs.Good.{Good, statusAt}
 use Rattle.promises.specs.History.{seenBit, shows, partBit, spot, holds}
@@ -42,19 +41,11 @@ pub record Accepted (x : World) (a : Access) : Type 0 where
 
 -- its enables name four lanes
 pub enables-lt : (s : State) (ml pl : ℕ) (a : Access) → statusOf s ml pl a ≡ 0 → a .enables < 16
-unfolding statusOf accessLines laterLines
-enables-lt s ml pl a e =
-    omega (
-      arith,
-      leb-true (a .enables) 15
-          (and-second (leb (a .target) 3) (leb (a .enables) 15)
-          (not-false (leb (a .target) 3 && leb (a .enables) 15) (none-holds (accessLines s ml pl a) refl e 2))),
-    )
+enables-lt s ml pl a e = omega (arith, unrefused s ml pl a e .enables)
 
 -- an accepted access finds something at its place
 pub found : (s : State) (ml pl : ℕ) (a : Access) → statusOf s ml pl a ≡ 0 → portOf s a .present ≡ true
-unfolding statusOf accessLines laterLines
-found s ml pl a e = not-false (portOf s a .present) (none-holds (accessLines s ml pl a) refl e 4)
+found s ml pl a e = unrefused s ml pl a e .present
 
 -- what it sees
 abbrev pub sees : World → Access → Seen

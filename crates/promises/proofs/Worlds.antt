@@ -6,7 +6,7 @@ use mathlib.Core.List.{List, [], _∷_}
 use mathlib.Core.Option.{Option, none, some}
 use mathlib.Core.Path.{_≡_, refl, sym, ap, ap₂, _∙_, subst}
 use native.Mathlib.Omega.{arith}
-use borrow.Author.Tests.{eqb-true, eq-eqb, not-false}
+use borrow.Author.Tests.{eq-eqb}
 use lib.Dec.{eqb}
 use lib.ListN.{getD, length, length-map, replicate, length-replicate}
 use Rattle.bits.specs.Choose.{pick, everyIn}
@@ -24,11 +24,11 @@ use Rattle.chip.specs.State.{resetState}
 use Rattle.chip.specs.Place.{placeOf}
 use Rattle.chip.specs.Port.{pokePatch}
 use Rattle.chip.specs.Sound.{panelOk, memoryOk, isState}
-use Rattle.chip.specs.Refusal.{openingLines, openingStatus}
+use Rattle.chip.specs.Refusal.{openingStatus}
 use Rattle.chip.specs.Step.{Outcome, Opening, refused, settled, patchOf, stateAfter, memoryAfter, doneBy, givenBy, stepOf, blankWord, openOf}
 use Rattle.chip.specs.Trace.{World, opened, after, run}
 use Rattle.chip.proofs.Computed.{computed}
-use Rattle.chip.proofs.Lines.{none-holds}
+use Rattle.chip.proofs.Refusals.{UnrefusedOpening, unrefused-opening}
 use Rattle.chip.proofs.Tables.{bank-length}
 use Rattle.chip.proofs.Poked.{putAll-length}
 use Rattle.chip.proofs.Lent.{small, puts-small, stores-small}
@@ -138,13 +138,8 @@ reset-sane w h f p q =
     record
     { panel = p; memory = q; component = refl; address = refl; once = refl; bank = refl; palette = refl }
 
-opening-parts : (w h : ℕ) (m p : List ℕ) → Openable w h m p → (panelOk w h ≡ true) × (memoryOk (length m) ≡ true) × (length p ≡ w * h)
-unfolding openingStatus openingLines
-opening-parts w h m p o = (
-  not-false (panelOk w h) (none-holds (openingLines w h (length m) (length p)) refl (o .accepted) 0),
-  not-false (memoryOk (length m)) (none-holds (openingLines w h (length m) (length p)) refl (o .accepted) 1),
-  eqb-true (length p) (w * h) (not-false (eqb (length p) (w * h)) (none-holds (openingLines w h (length m) (length p)) refl (o .accepted) 2)),
-)
+opening-parts : (w h : ℕ) (m p : List ℕ) → Openable w h m p → UnrefusedOpening w h (length m) (length p)
+opening-parts w h m p o = unrefused-opening w h (length m) (length p) (o .accepted)
 
 -- what an opening that is not refused leaves
 pub record Fresh (w h : ℕ) (m p : List ℕ) : Type 0 where
@@ -161,7 +156,7 @@ opens w h m p o =
       status = ap (λ (t : Bool). pick t (done) (left) .answer .status) q;
       state = ap (λ (t : Bool). pick t (done) (left) .answer .state) q;
       memory = ap (λ (t : Bool). pick t (done) (left) .memory) q;
-      picture = ap (λ (t : Bool). pick t (done) (left) .picture) q ∙ ap (λ (n : ℕ). replicate n blankWord) (opening-parts w h m p o .2);
+      picture = ap (λ (t : Bool). pick t (done) (left) .picture) q ∙ ap (λ (n : ℕ). replicate n blankWord) (opening-parts w h m p o .dots);
     }
   where
     done : Opening
@@ -176,7 +171,7 @@ opened-good w h m p o =
     let f = opens w h m p o in
     let q = opening-parts w h m p o in
     record {
-      state = ap isState (f .state) ∙ is-state _ (reset-sane w h (length m) (q .0) (q .1));
+      state = ap isState (f .state) ∙ is-state _ (reset-sane w h (length m) (q .panel) (q .memory));
       formed = subst Formed (sym (f .state)) (reset-formed w h (length m));
       memory = ap length (f .memory) ∙ sym (ap (λ (s : State). s .fitted) (f .state));
       picture =

@@ -1,9 +1,8 @@
 // The line that an answer is printed as.
 use crate::numeral::numeral;
 use crate::numeral::put;
-ghost use mathlib.Core.Path.{_≡_};
 ghost use mathlib.Core.List.{[], _∷_, _++_};
-ghost use Prim.Native.Nat.{_+_, _≤_, _<_};
+ghost use Prim.Native.Nat.{_+_, _≤_};
 ghost use lib.ListN.{length};
 ghost use Rattle.text.specs.Numeral.{decimalOf, wordText};
 ghost use Rattle.text.specs.Answer.{answerText, Wrote};

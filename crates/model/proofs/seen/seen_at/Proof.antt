@@ -1,5 +1,4 @@
 -- `model::seen::seen_at` is what a read sees, place by place. Assumes nothing.
-use mathlib.Core.Path.{refl, _∙_}
 use Rattle.chip.specs.Port.{portAt}
 use borrow.Author.Needs.{needs}
 use Rattle.model.proofs.seen.seen_at.Statement.{statement}

@@ -1,5 +1,4 @@
 -- `model::seen::seen_data` is what a palette data read sees. Assumes nothing.
-use Prim.Native.Nat.{ℕ}
 use mathlib.Core.Bool.{Bool}
 use mathlib.Core.Path.{ap, _∙_}
 use Rattle.chip.specs.Palette.{entryOf}

@@ -1,7 +1,5 @@
 -- `model::status::register_status` is lines 5 to 7 at a register: it has the direction, or not. Assumes nothing.
-use mathlib.Core.Path.{refl, sym, ap, _∙_}
-use mathlib.Core.Bool.{Bool}
-use Rattle.bits.specs.Choose.{pick}
+use mathlib.Core.Path.{refl, _∙_}
 use Rattle.chip.specs.Port.{portAt}
 use Rattle.model.proofs.TestLaws.{line-six, no-line, way-yes, way-no}
 use borrow.Author.Needs.{needs}

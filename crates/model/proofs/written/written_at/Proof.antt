@@ -1,5 +1,4 @@
 -- `model::written::written_at` is the state after a write, place by place. Assumes nothing.
-use mathlib.Core.Path.{refl}
 use Rattle.chip.specs.Patch.{applied}
 use Rattle.chip.specs.Port.{pokePatch, portAt}
 use borrow.Author.Needs.{needs}

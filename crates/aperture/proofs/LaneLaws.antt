@@ -1,15 +1,18 @@
 -- The lane of each byte by the swap code, the word of four bytes so placed, and a mode that is not served.
 -- By the cases of the swap code. Assumes nothing.
-use Prim.Native.Nat.{ℕ, _+_, _-_, _*_, _%_}
+use Prim.Native.Nat.{ℕ, _+_, _-_, _*_, _%_, _<_}
 use mathlib.Core.Bool.{true, false, not}
 use mathlib.Core.List.{List}
 use mathlib.Core.Path.{_≡_, sym, ap, _∙_}
 use native.Mathlib.Nat.{add-zero}
+use native.Mathlib.Omega.{arith}
 use borrow.Author.Tests.{ne-eqb}
 use lib.ListN.{getD}
 use Rattle.bits.specs.Bit.{bit}
 use Rattle.bits.proofs.Bools.{and-false}
-use Rattle.chip.specs.Units.{atByte}
+use Rattle.chip.specs.declared.Bytes.{Bytes}
+use Rattle.chip.specs.Units.{atByte, bytesAlong}
+use Rattle.chip.proofs.Sums.{along-is}
 use Rattle.chip.specs.Aperture.{swapOf, served, laneOf, reach, readLane, wordFrom}
 
 -- byte swapped, half-word swapped, and as it is
@@ -37,6 +40,20 @@ pub record Four (m : List ℕ) (o a b c d : ℕ) : Type 0 where
   pub second : b ≡ getD m (o + 1) 0
   pub third : c ≡ getD m (o + 2) 0
   pub fourth : d ≡ getD m (o + 3) 0
+
+-- the four bytes from one on
+pub four-of : (m : List ℕ) (o : ℕ) (k k1 k2 k3 : Bytes) (a b c d : ℕ) → o < 0x100000000 → k ≡ atByte o → k1 ≡ bytesAlong k 1 → k2 ≡ bytesAlong k 2 → k3 ≡ bytesAlong k 3
+    → a ≡ getD m (k .0) 0 → b ≡ getD m (k1 .0) 0 → c ≡ getD m (k2 .0) 0 → d ≡ getD m (k3 .0) 0 → Four m o a b c d
+four-of m o k k1 k2 k3 a b c d h e e1 e2 e3 p q r s =
+    record {
+      first = p ∙ ap (λ (x : Bytes). getD m (x .0) 0) e;
+      second = q ∙ next 1 k1 (omega arith) e1;
+      third = r ∙ next 2 k2 (omega arith) e2;
+      fourth = s ∙ next 3 k3 (omega arith) e3;
+    }
+  where
+    next : (n : ℕ) (x : Bytes) → o + n < 0x10000000000000000 → x ≡ bytesAlong k n → getD m (x .0) 0 ≡ getD m (o + n) 0
+    next n x g f = ap (λ (y : Bytes). getD m (y .0) 0) (along-is (atByte o) n x (f ∙ ap (λ (y : Bytes). bytesAlong y n) e) g)
 
 module _ (control : ℕ) {o a b c d : ℕ} {m : List ℕ} (f : Four m o a b c d) where
   placed : (p q r s n : ℕ) → readLane control m (atByte o) 0 ≡ p → readLane control m (atByte o) 1 ≡ q → readLane control m (atByte o) 2 ≡ r

@@ -1,7 +1,8 @@
 // Memory through an aperture: which modes are served, which lane each memory byte exchanges with, and the word that a read gives.
-// A place is a byte offset as the access names it; sums of it are made in 64 bits, so that none wraps.
+// An access's offset is the number that was handed in; a place is made of it at once, so that no sum of places wraps.
 use bits::bit_of;
 use chip::Bytes;
+use chip::at_byte;
 ghost use mathlib.Core.Path.{_≡_};
 ghost use Prim.Native.Nat.{_+_, _*_};
 ghost use lib.ListN.{getD};
@@ -46,21 +47,21 @@ pub fn lane_of(control: u32, i: u32) -> u32
 pub fn lane_place(control: u32, o: u32, j: u32) -> Bytes
     ensures { λ r. ⌜ r ≡ byteFrom (atByte o) (laneOf control j) ⌝ }
 {
-    Bytes((o as u64) + (lane_of(control, j) as u64))
+    at_byte(o).along(lane_of(control, j) as usize)
 }
 
 // Whether the bytes that an access at offset o reaches are fitted.
 pub fn reaches_memory(fitted: u32, control: u32, o: u32) -> bool
     ensures { λ r. ⌜ r ≡ reachesMemory fitted (span control (atByte o)) ⌝ }
 {
-    (o as u64) + 4 <= (fitted as u64)
+    at_byte(o).along(4).index() <= (fitted as usize)
 }
 
 // The byte at k, and 0 past the end.
-pub fn byte_at(memory: &[u8], k: u64) -> u8
-    ensures { λ r. ⌜ r ≡ getD (now (memory .entry)) k 0 ⌝ }
+pub fn byte_at(memory: &[u8], k: Bytes) -> u8
+    ensures { λ r. ⌜ r ≡ getD (now (memory .entry)) (k .0) 0 ⌝ }
 {
-    let at = k as usize;
+    let at = k.index();
     if memory.len() <= at {
         return 0;
     }
@@ -84,11 +85,11 @@ fn four_lanes(a: u8, b: u8, c: u8, d: u8) -> u32
 pub fn word_from(control: u32, memory: &[u8], o: u32) -> u32
     ensures { λ r. ⌜ r ≡ wordFrom control (now (memory .entry)) (atByte o) ⌝ }
 {
-    let k = o as u64;
+    let k = at_byte(o);
     let a = byte_at(memory, k);
-    let b = byte_at(memory, k + 1);
-    let c = byte_at(memory, k + 2);
-    let d = byte_at(memory, k + 3);
+    let b = byte_at(memory, k.along(1));
+    let c = byte_at(memory, k.along(2));
+    let d = byte_at(memory, k.along(3));
     let swap = control % 4;
     if swap == 1 {
         return four_lanes(d, c, b, a);

@@ -25,7 +25,7 @@ fn write_lane(
 {
     if bits::bit_of(j, a.enables) {
         let at = aperture::lane_place(control, a.offset, j);
-        return picture::poke::poke(s, memory, picture, at.0, bits::lane_byte(j, a.word));
+        return picture::poke::poke(s, memory, picture, at, bits::lane_byte(j, a.word));
     }
     0
 }

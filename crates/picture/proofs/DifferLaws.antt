@@ -39,17 +39,17 @@ differs-done d i t u h g o = subst (λ (k : ℕ). Differs d k t u) (let e : i �
 
 -- a way other than all: the row lies alike, and it is what was found
 pub record Way (d way : Differ) (r : Row) : Type 0 where
-  pub rows : r .old .at ≡ r .new .at
+  pub rows : r .old .at .0 ≡ r .new .at .0
   pub pasts : r .old .past ≡ r .new .past
   pub found : way ≡ d
 
 pub way-found : (d way : Differ) (r : Row) → way ≡ wayOf d r → (way ≡ Several → ⊥) → Way d way r
 unfolding wayOf
 way-found d way r q n =
-    byTest (eqb (r .old .at) (r .new .at) && eqb (r .old .past) (r .new .past))
+    byTest (eqb (r .old .at .0) (r .new .at .0) && eqb (r .old .past) (r .new .past))
     (λ e. record {
-      rows = eqb-true (r .old .at) (r .new .at) (and-first (eqb (r .old .at) (r .new .at)) (eqb (r .old .past) (r .new .past)) e);
-      pasts = eqb-true (r .old .past) (r .new .past) (and-second (eqb (r .old .at) (r .new .at)) (eqb (r .old .past) (r .new .past)) e);
+      rows = eqb-true (r .old .at .0) (r .new .at .0) (and-first (eqb (r .old .at .0) (r .new .at .0)) (eqb (r .old .past) (r .new .past)) e);
+      pasts = eqb-true (r .old .past) (r .new .past) (and-second (eqb (r .old .at .0) (r .new .at .0)) (eqb (r .old .past) (r .new .past)) e);
       found = q ∙ simp e;
     })
     (λ e. absurd (n (q ∙ simp e)))

@@ -32,4 +32,4 @@ pub record Differs (d : Differ) (n : ℕ) (t u : List ℕ) : Type 0 where
 
 -- a row's way: what was found where the row lies alike in both layouts, else everything
 unfoldable pub wayOf : Differ → Row → Differ
-wayOf d r = pick (eqb (r .old .at) (r .new .at) && eqb (r .old .past) (r .new .past)) d Several
+wayOf d r = pick (eqb (r .old .at .0) (r .new .at .0) && eqb (r .old .past) (r .new .past)) d Several

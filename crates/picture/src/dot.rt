@@ -6,11 +6,12 @@ ghost use lib.Dec.{eqb};
 ghost use Rattle.bits.specs.Choose.{pick};
 ghost use Rattle.chip.specs.Picture.{chosen};
 ghost use Rattle.picture.specs.Draw.{lookOf, Put};
+use chip::Bytes;
 
 // Where a row's bytes start in a layout, and the layout's word past memory's end.
 pub(crate) struct Start {
     pub(crate) past: u32,
-    pub(crate) at: usize,
+    pub(crate) at: Bytes,
 }
 
 // A row of the panel in the old layout and in the new one, and its dots in the picture.
@@ -51,11 +52,12 @@ pub(crate) fn wide(x: u8) -> usize
 }
 
 // The word of a dot whose byte is at a place: the table's, or the word past memory's end.
-pub(crate) fn look<'a>(past: u32, at: usize, table: &'a [u32; 256], memory: &'a [u8]) -> u32
-    ensures { λ r. ⌜ r ≡ lookOf past at (now (table .entry)) (now (memory .entry)) ⌝ }
+pub(crate) fn look<'a>(past: u32, at: Bytes, table: &'a [u32; 256], memory: &'a [u8]) -> u32
+    ensures { λ r. ⌜ r ≡ lookOf past (at .0) (now (table .entry)) (now (memory .entry)) ⌝ }
 {
-    if at < memory.len() {
-        let b = wide(memory[at]);
+    let k = at.index();
+    if k < memory.len() {
+        let b = wide(memory[k]);
         return table[b];
     }
     past

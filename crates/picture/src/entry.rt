@@ -9,6 +9,7 @@ ghost use Rattle.picture.specs.Row.{oldDots, Reach};
 ghost use Rattle.picture.specs.Differ.{noted, Differs};
 ghost use Rattle.picture.specs.declared.entry.Differ.the-variants.{At};
 use crate::dot::Row;
+use chip::Bytes;
 
 // Where two tables differ.
 pub(crate) enum Differ {
@@ -51,17 +52,14 @@ fn old_word(byte: u8, e: u8, a: u32, b: u32) -> u32
 }
 
 // How many dots of a row lie inside memory.
-pub(crate) fn inside(row: usize, width: usize, size: usize) -> usize
-    ensures { λ r. ⌜ Inside row width size r ⌝ }
+pub(crate) fn inside(row: Bytes, width: usize, size: usize) -> usize
+    ensures { λ r. ⌜ Inside (row .0) width size r ⌝ }
 {
-    if size <= row {
+    let at = row.index();
+    if size <= at {
         return 0;
     }
-    if width < size - row {
-        width
-    } else {
-        size - row
-    }
+    if width < size - at { width } else { size - at }
 }
 
 // The dots of which the byte is e, of a row that lies alike in both layouts.
@@ -82,7 +80,7 @@ pub(crate) fn entry_row<'a>(
     let mut n: u32 = 0;
     let mut x = 0;
     while x < dots {
-        let o = old_word(memory[row.old.at + x], e, a, b);
+        let o = old_word(memory[row.old.at.index() + x], e, a, b);
         n += crate::dot::put(picture, row.first + x, o, b);
         x += 1;
     }

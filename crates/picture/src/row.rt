@@ -29,8 +29,8 @@ fn draw_row<'a>(
     let mut n: u32 = 0;
     let mut x = 0;
     while x < width {
-        let a = look(row.old.past, row.old.at + x, t0, memory);
-        let b = look(row.new.past, row.new.at + x, t1, memory);
+        let a = look(row.old.past, row.old.at.along(x), t0, memory);
+        let b = look(row.new.past, row.new.at.along(x), t1, memory);
         n += put(picture, row.first + x, a, b);
         x += 1;
     }
@@ -45,11 +45,11 @@ fn rest_of(row: Row, d: usize) -> Row
     Row {
         old: Start {
             past: row.old.past,
-            at: row.old.at + d,
+            at: row.old.at.along(d),
         },
         new: Start {
             past: row.new.past,
-            at: row.new.at + d,
+            at: row.new.at.along(d),
         },
         first: row.first + d,
         width: row.width - d,
@@ -72,8 +72,8 @@ fn both_row<'a>(
     let mut n: u32 = 0;
     let mut x = 0;
     while x < dots {
-        let v = wide(memory[row.old.at + x]);
-        let w = wide(memory[row.new.at + x]);
+        let v = wide(memory[row.old.at.index() + x]);
+        let w = wide(memory[row.new.at.index() + x]);
         n += put(picture, row.first + x, t0[v], t1[w]);
         x += 1;
     }
@@ -83,7 +83,7 @@ fn both_row<'a>(
 fn way_of(found: Differ, row: Row) -> Differ
     ensures { λ r. ⌜ r ≡ wayOf found row ⌝ }
 {
-    if row.old.at != row.new.at {
+    if row.old.at.index() != row.new.at.index() {
         return Differ::Several;
     }
     if row.old.past != row.new.past {

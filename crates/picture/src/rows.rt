@@ -1,8 +1,6 @@
 // Every dot of the picture, row by row.
-ghost use mathlib.Core.Path.{_≡_};
-ghost use Prim.Native.Nat.{_*_, _<_, _^_};
+ghost use Prim.Native.Nat.{_*_};
 ghost use lib.ListN.{length};
-ghost use Rattle.chip.specs.Units.{bytesOf};
 ghost use Rattle.picture.specs.Draw.{Part};
 ghost use Rattle.picture.specs.Layout.{laidDots, Laid, LaidIn};
 ghost use Rattle.picture.specs.Differ.{Differs};
@@ -10,16 +8,7 @@ use crate::dot::Row;
 use crate::dot::Start;
 use crate::entry::Differ;
 use crate::view::Layout;
-use chip::Units;
-
-// Where a row starts, in bytes.
-pub(crate) fn row_at(u: u32) -> usize
-    requires { ⌜ u < 2 ^ 32 ⌝ }
-    ensures { λ r. ⌜ r ≡ bytesOf (record { 0 = u }) .0 ⌝ }
-{
-    let b = chip::in_bytes(Units(u));
-    b.0 as usize
-}
+use chip::in_bytes;
 
 // Every dot that can change, row after row: rows are counted in units and converted once each. The panel is the old layout's.
 pub(crate) fn draw_rows<'a>(
@@ -37,26 +26,26 @@ pub(crate) fn draw_rows<'a>(
 {
     let height = old.height;
     let mut n: u32 = 0;
-    let mut u0 = old.base.0;
-    let mut u1 = new.base.0;
+    let mut u0 = old.base;
+    let mut u1 = new.base;
     let mut first = 0;
     let mut y = 0;
     while y < height {
         let row = Row {
             old: Start {
                 past: old.past,
-                at: row_at(u0),
+                at: in_bytes(u0),
             },
             new: Start {
                 past: new.past,
-                at: row_at(u1),
+                at: in_bytes(u1),
             },
             first,
             width: old.width,
         };
         n += crate::row::some_row(found, row, t0, t1, memory, picture);
-        u0 += old.stride.0;
-        u1 += new.stride.0;
+        u0 = u0.plus(old.stride);
+        u1 = u1.plus(new.stride);
         first += old.width;
         y += 1;
     }

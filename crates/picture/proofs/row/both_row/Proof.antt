@@ -11,7 +11,8 @@ use Rattle.picture.proofs.row.both_row.Statement.{statement}
 use Rattle.picture.proofs.row.both_row.Tie as tie
 
 abbrev Inv-loop : tie.InvT-loop
-Inv-loop row t0 t1 memory picture₀ one dots n₀ x₀ picture n x = Along (oldDots row t0 memory) (newDots row t1 memory) (row .first) dots picture₀ n x picture
+Inv-loop row t0 t1 memory picture₀ one dots n₀ x₀ picture n x =
+    Along (oldDots row t0 memory) (newDots row t1 memory) (row .first) dots picture₀ n x picture
 
 abbrev μ-loop : tie.MeasureT-loop
 μ-loop row t0 t1 memory picture₀ one dots n₀ x₀ picture n x = dots - x
@@ -25,20 +26,26 @@ inside-requires-2 c κs = search needs
 loop-holds : tie.Need-loop-holds Inv-loop μ-loop
 loop-holds c = along-start _ _ _ _ _
 
+index-requires : tie.Need-index-requires Inv-loop μ-loop
+index-requires c κs = search needs
+
 add-wide : tie.Need-add-wide Inv-loop μ-loop
-add-wide c = omega (arith, c .before .before .before .before .inside .ensures .narrow, c .before .before .before .before .inside .ensures .fitted, c .before .before .before .inside2 .ensures .narrow, c .before .before .before .inside2 .ensures .fitted, c .before .before .before .before .before .before .before .pre .room, c .before .before .before .before .before .before .before .pre .narrow, c .before .before .before .before .before .before .before .pre .old, c .before .before .before .before .before .before .before .pre .new, c .before .loop-test .taken)
+add-wide c = omega (arith, c .index .ensures, c .before .before .before .before .inside .ensures .narrow, c .before .before .before .before .inside .ensures .fitted, c .before .before .before .inside2 .ensures .narrow, c .before .before .before .inside2 .ensures .fitted, c .before .before .before .before .before .before .before .pre .room, c .before .before .before .before .before .before .before .pre .narrow, c .before .before .before .before .before .before .before .pre .old, c .before .before .before .before .before .before .before .pre .new, c .before .loop-test .taken)
 
 shared-slice-read-wide : tie.Need-shared-slice-read-wide Inv-loop μ-loop
-shared-slice-read-wide c = omega (arith, c .before .before .before .before .before .inside .ensures .narrow, c .before .before .before .before .before .inside .ensures .fitted, c .before .before .before .before .inside2 .ensures .narrow, c .before .before .before .before .inside2 .ensures .fitted, c .before .before .before .before .before .before .before .before .pre .room, c .before .before .before .before .before .before .before .before .pre .narrow, c .before .before .before .before .before .before .before .before .pre .old, c .before .before .before .before .before .before .before .before .pre .new, c .before .before .loop-test .taken)
+shared-slice-read-wide c = omega (arith, c .before .index .ensures, c .before .before .before .before .before .inside .ensures .narrow, c .before .before .before .before .before .inside .ensures .fitted, c .before .before .before .before .inside2 .ensures .narrow, c .before .before .before .before .inside2 .ensures .fitted, c .before .before .before .before .before .before .before .before .pre .room, c .before .before .before .before .before .before .before .before .pre .narrow, c .before .before .before .before .before .before .before .before .pre .old, c .before .before .before .before .before .before .before .before .pre .new, c .before .before .loop-test .taken)
 
 wide-requires : tie.Need-wide-requires Inv-loop μ-loop
 wide-requires c κs = search needs
 
+index-requires-2 : tie.Need-index-requires-2 Inv-loop μ-loop
+index-requires-2 c κs = search needs
+
 add-wide-2 : tie.Need-add-wide-2 Inv-loop μ-loop
-add-wide-2 c = omega (arith, c .before .before .before .before .before .before .before .inside .ensures .narrow, c .before .before .before .before .before .before .before .inside .ensures .fitted, c .before .before .before .before .before .before .inside2 .ensures .narrow, c .before .before .before .before .before .before .inside2 .ensures .fitted, c .before .before .before .before .before .before .before .before .before .before .pre .room, c .before .before .before .before .before .before .before .before .before .before .pre .narrow, c .before .before .before .before .before .before .before .before .before .before .pre .old, c .before .before .before .before .before .before .before .before .before .before .pre .new, c .before .before .before .before .loop-test .taken)
+add-wide-2 c = omega (arith, c .index2 .ensures, c .before .before .before .before .before .before .before .inside .ensures .narrow, c .before .before .before .before .before .before .before .inside .ensures .fitted, c .before .before .before .before .before .before .inside2 .ensures .narrow, c .before .before .before .before .before .before .inside2 .ensures .fitted, c .before .before .before .before .before .before .before .before .before .before .pre .room, c .before .before .before .before .before .before .before .before .before .before .pre .narrow, c .before .before .before .before .before .before .before .before .before .before .pre .old, c .before .before .before .before .before .before .before .before .before .before .pre .new, c .before .before .before .before .loop-test .taken)
 
 shared-slice-read-wide-2 : tie.Need-shared-slice-read-wide-2 Inv-loop μ-loop
-shared-slice-read-wide-2 c = omega (arith, c .before .before .before .before .before .before .before .before .inside .ensures .narrow, c .before .before .before .before .before .before .before .before .inside .ensures .fitted, c .before .before .before .before .before .before .before .inside2 .ensures .narrow, c .before .before .before .before .before .before .before .inside2 .ensures .fitted, c .before .before .before .before .before .before .before .before .before .before .before .pre .room, c .before .before .before .before .before .before .before .before .before .before .before .pre .narrow, c .before .before .before .before .before .before .before .before .before .before .before .pre .old, c .before .before .before .before .before .before .before .before .before .before .before .pre .new, c .before .before .before .before .before .loop-test .taken)
+shared-slice-read-wide-2 c = omega (arith, c .before .index2 .ensures, c .before .before .before .before .before .before .before .before .inside .ensures .narrow, c .before .before .before .before .before .before .before .before .inside .ensures .fitted, c .before .before .before .before .before .before .before .inside2 .ensures .narrow, c .before .before .before .before .before .before .before .inside2 .ensures .fitted, c .before .before .before .before .before .before .before .before .before .before .before .pre .room, c .before .before .before .before .before .before .before .before .before .before .before .pre .narrow, c .before .before .before .before .before .before .before .before .before .before .before .pre .old, c .before .before .before .before .before .before .before .before .before .before .before .pre .new, c .before .before .before .before .before .loop-test .taken)
 
 wide-requires-2 : tie.Need-wide-requires-2 Inv-loop μ-loop
 wide-requires-2 c κs = search needs
@@ -71,7 +78,7 @@ loop-less : tie.Need-loop-less Inv-loop μ-loop
 loop-less c = omega (arith, c .before .before .before .before .before .before .before .before .before .before .before .before .before .loop-test .taken)
 
 loop-again : tie.Need-loop-again Inv-loop μ-loop
-loop-again c = along-more _ _ _ _ _ _ _ _ (c .before .before .before .before .before .before .before .before .before .before .before .before .before .before .loop .inv) _ _ _ _ (c .before .before .before .before .before .before .before .before .before .before .before .before .before .loop-test .taken) (omega (arith, c .before .before .before .before .before .before .before .before .before .before .before .before .before .before .before .before .inside .ensures .narrow, c .before .before .before .before .before .before .before .before .before .before .before .before .before .before .before .before .inside .ensures .fitted, c .before .before .before .before .before .before .before .before .before .before .before .before .before .before .before .inside2 .ensures .narrow, c .before .before .before .before .before .before .before .before .before .before .before .before .before .before .before .inside2 .ensures .fitted, c .before .before .before .before .before .before .before .before .before .before .before .before .before .before .before .before .before .before .before .pre .room, c .before .before .before .before .before .before .before .before .before .before .before .before .before .before .before .before .before .before .before .pre .narrow, c .before .before .before .before .before .before .before .before .before .before .before .before .before .before .before .before .before .before .before .pre .old, c .before .before .before .before .before .before .before .before .before .before .before .before .before .before .before .before .before .before .before .pre .new)) (look-byte _ _ _ _ _ _ _ _ (omega (arith, c .before .before .before .before .before .before .before .before .before .before .before .before .before .before .before .before .inside .ensures .narrow, c .before .before .before .before .before .before .before .before .before .before .before .before .before .before .before .before .inside .ensures .fitted, c .before .before .before .before .before .before .before .before .before .before .before .before .before .before .before .inside2 .ensures .narrow, c .before .before .before .before .before .before .before .before .before .before .before .before .before .before .before .inside2 .ensures .fitted, c .before .before .before .before .before .before .before .before .before .before .before .before .before .before .before .before .before .before .before .pre .room, c .before .before .before .before .before .before .before .before .before .before .before .before .before .before .before .before .before .before .before .pre .narrow, c .before .before .before .before .before .before .before .before .before .before .before .before .before .before .before .before .before .before .before .pre .old, c .before .before .before .before .before .before .before .before .before .before .before .before .before .before .before .before .before .before .before .pre .new, c .before .before .before .before .before .before .before .before .before .before .before .before .before .loop-test .taken)) (c .before .before .before .before .before .before .before .before .before .before .wide .ensures .0) refl) (look-byte _ _ _ _ _ _ _ _ (omega (arith, c .before .before .before .before .before .before .before .before .before .before .before .before .before .before .before .before .inside .ensures .narrow, c .before .before .before .before .before .before .before .before .before .before .before .before .before .before .before .before .inside .ensures .fitted, c .before .before .before .before .before .before .before .before .before .before .before .before .before .before .before .inside2 .ensures .narrow, c .before .before .before .before .before .before .before .before .before .before .before .before .before .before .before .inside2 .ensures .fitted, c .before .before .before .before .before .before .before .before .before .before .before .before .before .before .before .before .before .before .before .pre .room, c .before .before .before .before .before .before .before .before .before .before .before .before .before .before .before .before .before .before .before .pre .narrow, c .before .before .before .before .before .before .before .before .before .before .before .before .before .before .before .before .before .before .before .pre .old, c .before .before .before .before .before .before .before .before .before .before .before .before .before .before .before .before .before .before .before .pre .new, c .before .before .before .before .before .before .before .before .before .before .before .before .before .loop-test .taken)) (c .before .before .before .before .before .before .before .wide2 .ensures .0) refl) (c .before .before .put .ensures)
+loop-again c = along-more _ _ _ _ _ _ _ _ (c .before .before .before .before .before .before .before .before .before .before .before .before .before .before .loop .inv) _ _ _ _ (c .before .before .before .before .before .before .before .before .before .before .before .before .before .loop-test .taken) (omega (arith, c .before .before .before .before .before .before .before .before .before .before .before .before .before .before .before .before .inside .ensures .narrow, c .before .before .before .before .before .before .before .before .before .before .before .before .before .before .before .before .inside .ensures .fitted, c .before .before .before .before .before .before .before .before .before .before .before .before .before .before .before .inside2 .ensures .narrow, c .before .before .before .before .before .before .before .before .before .before .before .before .before .before .before .inside2 .ensures .fitted, c .before .before .before .before .before .before .before .before .before .before .before .before .before .before .before .before .before .before .before .pre .room, c .before .before .before .before .before .before .before .before .before .before .before .before .before .before .before .before .before .before .before .pre .narrow, c .before .before .before .before .before .before .before .before .before .before .before .before .before .before .before .before .before .before .before .pre .old, c .before .before .before .before .before .before .before .before .before .before .before .before .before .before .before .before .before .before .before .pre .new)) (look-byte _ _ _ _ _ _ _ _ (omega (arith, c .before .before .before .before .before .before .before .before .before .before .before .before .before .before .before .before .inside .ensures .narrow, c .before .before .before .before .before .before .before .before .before .before .before .before .before .before .before .before .inside .ensures .fitted, c .before .before .before .before .before .before .before .before .before .before .before .before .before .before .before .inside2 .ensures .narrow, c .before .before .before .before .before .before .before .before .before .before .before .before .before .before .before .inside2 .ensures .fitted, c .before .before .before .before .before .before .before .before .before .before .before .before .before .before .before .before .before .before .before .pre .room, c .before .before .before .before .before .before .before .before .before .before .before .before .before .before .before .before .before .before .before .pre .narrow, c .before .before .before .before .before .before .before .before .before .before .before .before .before .before .before .before .before .before .before .pre .old, c .before .before .before .before .before .before .before .before .before .before .before .before .before .before .before .before .before .before .before .pre .new, c .before .before .before .before .before .before .before .before .before .before .before .before .before .loop-test .taken)) (rw (c .before .before .before .before .before .before .before .before .before .before .before .before .index .ensures) at (c .before .before .before .before .before .before .before .before .before .before .wide .ensures .0)) refl) (look-byte _ _ _ _ _ _ _ _ (omega (arith, c .before .before .before .before .before .before .before .before .before .before .before .before .before .before .before .before .inside .ensures .narrow, c .before .before .before .before .before .before .before .before .before .before .before .before .before .before .before .before .inside .ensures .fitted, c .before .before .before .before .before .before .before .before .before .before .before .before .before .before .before .inside2 .ensures .narrow, c .before .before .before .before .before .before .before .before .before .before .before .before .before .before .before .inside2 .ensures .fitted, c .before .before .before .before .before .before .before .before .before .before .before .before .before .before .before .before .before .before .before .pre .room, c .before .before .before .before .before .before .before .before .before .before .before .before .before .before .before .before .before .before .before .pre .narrow, c .before .before .before .before .before .before .before .before .before .before .before .before .before .before .before .before .before .before .before .pre .old, c .before .before .before .before .before .before .before .before .before .before .before .before .before .before .before .before .before .before .before .pre .new, c .before .before .before .before .before .before .before .before .before .before .before .before .before .loop-test .taken)) (rw (c .before .before .before .before .before .before .before .before .before .index2 .ensures) at (c .before .before .before .before .before .before .before .wide2 .ensures .0)) refl) (c .before .before .put .ensures)
 
 rest-of-requires : tie.Need-rest-of-requires Inv-loop μ-loop
 rest-of-requires c κs = record { within = omega (arith, c .before .before .before .inside .ensures .narrow, c .before .before .before .inside .ensures .fitted, c .before .before .inside2 .ensures .narrow, c .before .before .inside2 .ensures .fitted, c .before .before .before .before .before .before .pre .room, c .before .before .before .before .before .before .pre .narrow, c .before .before .before .before .before .before .pre .old, c .before .before .before .before .before .before .pre .new); narrow = c .before .before .before .before .before .before .pre .narrow; old = omega (arith, c .before .before .before .inside .ensures .narrow, c .before .before .before .inside .ensures .fitted, c .before .before .inside2 .ensures .narrow, c .before .before .inside2 .ensures .fitted, c .before .before .before .before .before .before .pre .room, c .before .before .before .before .before .before .pre .narrow, c .before .before .before .before .before .before .pre .old, c .before .before .before .before .before .before .pre .new); new = omega (arith, c .before .before .before .inside .ensures .narrow, c .before .before .before .inside .ensures .fitted, c .before .before .inside2 .ensures .narrow, c .before .before .inside2 .ensures .fitted, c .before .before .before .before .before .before .pre .room, c .before .before .before .before .before .before .pre .narrow, c .before .before .before .before .before .before .pre .old, c .before .before .before .before .before .before .pre .new); first = omega (arith, c .before .before .before .inside .ensures .narrow, c .before .before .before .inside .ensures .fitted, c .before .before .inside2 .ensures .narrow, c .before .before .inside2 .ensures .fitted, c .before .before .before .before .before .before .pre .room, c .before .before .before .before .before .before .pre .narrow, c .before .before .before .before .before .before .pre .old, c .before .before .before .before .before .before .pre .new) }
@@ -86,7 +93,7 @@ same-length : tie.Need-same-length Inv-loop μ-loop
 same-length c = search needs
 
 returns : tie.Need-returns Inv-loop μ-loop
-returns c = both-end (c .before .before .before .before .before .before .before .before .before .before .before .args .row) _ _ _ _ _ _ _ _ _ _ (omega (arith, c .before .before .before .before .before .before .before .before .inside .ensures .narrow, c .before .before .before .before .before .before .before .before .inside .ensures .fitted, c .before .before .before .before .before .before .before .inside2 .ensures .narrow, c .before .before .before .before .before .before .before .inside2 .ensures .fitted, c .before .before .before .before .before .before .before .before .before .before .before .pre .room, c .before .before .before .before .before .before .before .before .before .before .before .pre .narrow, c .before .before .before .before .before .before .before .before .before .before .before .pre .old, c .before .before .before .before .before .before .before .before .before .before .before .pre .new)) (c .before .before .before .before .before .loop-test .left) (c .before .before .before .before .before .before .loop .inv) (rw (c .before .before .before .before .rest-of .ensures) at (c .before .before .draw-row .ensures))
+returns c = both-end (c .before .before .before .before .before .before .before .before .before .before .before .args .row) _ _ _ _ _ _ _ _ _ _ (omega (arith, c .before .before .before .before .before .before .before .before .inside .ensures .narrow, c .before .before .before .before .before .before .before .before .inside .ensures .fitted, c .before .before .before .before .before .before .before .inside2 .ensures .narrow, c .before .before .before .before .before .before .before .inside2 .ensures .fitted, c .before .before .before .before .before .before .before .before .before .before .before .pre .room, c .before .before .before .before .before .before .before .before .before .before .before .pre .narrow, c .before .before .before .before .before .before .before .before .before .before .before .pre .old, c .before .before .before .before .before .before .before .before .before .before .before .pre .new)) (c .before .before .before .before .before .loop-test .left) (omega (arith, c .before .before .before .before .before .before .before .before .inside .ensures .narrow, c .before .before .before .before .before .before .before .inside2 .ensures .narrow, c .before .before .before .before .before .before .before .before .before .before .before .pre .narrow, c .before .before .before .before .before .before .before .before .before .before .before .pre .old, c .before .before .before .before .before .before .before .before .before .before .before .pre .new)) (omega (arith, c .before .before .before .before .before .before .before .before .inside .ensures .narrow, c .before .before .before .before .before .before .before .inside2 .ensures .narrow, c .before .before .before .before .before .before .before .before .before .before .before .pre .narrow, c .before .before .before .before .before .before .before .before .before .before .before .pre .old, c .before .before .before .before .before .before .before .before .before .before .before .pre .new)) (c .before .before .before .before .before .before .loop .inv) (rw (c .before .before .before .before .rest-of .ensures) at (c .before .before .draw-row .ensures))
 
 pub both-row-spec : {M : Type 1} → statement M
 both-row-spec =
@@ -97,9 +104,11 @@ both-row-spec =
     inside-requires
     inside-requires-2
     loop-holds
+    index-requires
     add-wide
     shared-slice-read-wide
     wide-requires
+    index-requires-2
     add-wide-2
     shared-slice-read-wide-2
     wide-requires-2

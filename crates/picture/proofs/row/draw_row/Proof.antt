@@ -1,16 +1,16 @@
 -- `picture::row::draw_row` redraws the dots of its row.
 -- The loop keeps the dots passed drawn (RowLaws.Along); a turn is one more dot. Assumes nothing.
 use Prim.Native.Nat.{_-_}
-use mathlib.Core.Path.{_∙_, sym}
 use native.Mathlib.Omega.{arith}
 use Rattle.picture.specs.Row.{oldDots, newDots}
-use Rattle.picture.proofs.RowLaws.{Along, along-start, along-more, along-end, put-one, row-look}
+use Rattle.picture.proofs.RowLaws.{Along, along-start, along-more, along-end, put-one, look-along}
 use borrow.Author.Needs.{needs}
 use Rattle.picture.proofs.row.draw_row.Statement.{statement}
 use Rattle.picture.proofs.row.draw_row.Tie as tie
 
 abbrev Inv-loop : tie.InvT-loop
-Inv-loop row t0 t1 memory picture₀ width n₀ x₀ picture n x = Along (oldDots row t0 memory) (newDots row t1 memory) (row .first) width picture₀ n x picture
+Inv-loop row t0 t1 memory picture₀ width n₀ x₀ picture n x =
+    Along (oldDots row t0 memory) (newDots row t1 memory) (row .first) width picture₀ n x picture
 
 abbrev μ-loop : tie.MeasureT-loop
 μ-loop row t0 t1 memory picture₀ width n₀ x₀ picture n x = width - x
@@ -18,14 +18,14 @@ abbrev μ-loop : tie.MeasureT-loop
 loop-holds : tie.Need-loop-holds Inv-loop μ-loop
 loop-holds c = along-start _ _ _ _ _
 
-add-look : tie.Need-add-look Inv-loop μ-loop
-add-look c = omega (arith, c .before .before .before .before .before .pre .room, c .before .before .before .before .before .pre .narrow, c .before .before .before .before .before .pre .old, c .before .before .before .before .before .pre .new, c .before .loop-test .taken)
+along-requires : tie.Need-along-requires Inv-loop μ-loop
+along-requires c κs = search needs
 
 look-requires : tie.Need-look-requires Inv-loop μ-loop
 look-requires c κs = search needs
 
-add-look-2 : tie.Need-add-look-2 Inv-loop μ-loop
-add-look-2 c = omega (arith, c .before .before .before .before .before .before .before .pre .room, c .before .before .before .before .before .before .before .pre .narrow, c .before .before .before .before .before .before .before .pre .old, c .before .before .before .before .before .before .before .pre .new, c .before .before .before .loop-test .taken)
+along-requires-2 : tie.Need-along-requires-2 Inv-loop μ-loop
+along-requires-2 c κs = search needs
 
 look-requires-2 : tie.Need-look-requires-2 Inv-loop μ-loop
 look-requires-2 c κs = search needs
@@ -46,7 +46,7 @@ loop-less : tie.Need-loop-less Inv-loop μ-loop
 loop-less c = omega (arith, c .before .before .before .before .before .before .before .before .before .loop-test .taken)
 
 loop-again : tie.Need-loop-again Inv-loop μ-loop
-loop-again c = along-more _ _ _ _ _ _ _ _ (c .before .before .before .before .before .before .before .before .before .before .loop .inv) _ _ _ _ (c .before .before .before .before .before .before .before .before .before .loop-test .taken) (c .before .before .before .before .before .before .before .before .before .before .before .before .before .pre .room) (c .before .before .before .before .before .before .before .look .ensures ∙ sym (row-look _ _ _ _ _ _)) (c .before .before .before .before .before .look2 .ensures ∙ sym (row-look _ _ _ _ _ _)) (c .before .before .put .ensures)
+loop-again c = along-more _ _ _ _ _ _ _ _ (c .before .before .before .before .before .before .before .before .before .before .loop .inv) _ _ _ _ (c .before .before .before .before .before .before .before .before .before .loop-test .taken) (c .before .before .before .before .before .before .before .before .before .before .before .before .before .pre .room) (look-along _ (c .before .before .before .before .before .before .before .before .before .before .before .before .before .args .row .old .at) _ _ _ _ _ _ (c .before .before .before .before .before .before .before .before .along .ensures) (omega (arith, c .before .before .before .before .before .before .before .before .before .before .before .before .before .pre .narrow, c .before .before .before .before .before .before .before .before .before .before .before .before .before .pre .old, c .before .before .before .before .before .before .before .before .before .before .before .before .before .pre .new, c .before .before .before .before .before .before .before .before .before .loop-test .taken)) (c .before .before .before .before .before .before .before .look .ensures)) (look-along _ (c .before .before .before .before .before .before .before .before .before .before .before .before .before .args .row .new .at) _ _ _ _ _ _ (c .before .before .before .before .before .before .along2 .ensures) (omega (arith, c .before .before .before .before .before .before .before .before .before .before .before .before .before .pre .narrow, c .before .before .before .before .before .before .before .before .before .before .before .before .before .pre .old, c .before .before .before .before .before .before .before .before .before .before .before .before .before .pre .new, c .before .before .before .before .before .before .before .before .before .loop-test .taken)) (c .before .before .before .before .before .look2 .ensures)) (c .before .before .put .ensures)
 
 same-length : tie.Need-same-length Inv-loop μ-loop
 same-length c = c .before .loop .inv .part .size
@@ -61,9 +61,9 @@ draw-row-spec =
     Inv-loop
     μ-loop
     loop-holds
-    add-look
+    along-requires
     look-requires
-    add-look-2
+    along-requires-2
     look-requires-2
     add-put
     put-requires

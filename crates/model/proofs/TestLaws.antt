@@ -35,12 +35,6 @@ and-no t a b p e = simp (sym p ∙ e)
 pub and-yes : (t a b r : Bool) → t ≡ a → t ≡ true → r ≡ b → r ≡ (a && b)
 and-yes t a b r p e h = h ∙ simp (sym p ∙ e)
 
-pub pick-yes : {A : Type 0} (t : Bool) (a b r : A) → t ≡ true → r ≡ a → r ≡ pick t a b
-pick-yes t a b r e h = h ∙ simp e
-
-pub pick-no : {A : Type 0} (t : Bool) (a b r : A) → t ≡ false → r ≡ b → r ≡ pick t a b
-pick-no t a b r e h = h ∙ simp e
-
 -- ---- the lines of a table
 
 -- a line whose test fails gives its number

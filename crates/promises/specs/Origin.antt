@@ -120,8 +120,8 @@ pub record WritesComponent (x : World) (a : Access) (v : ℕ) : Type 0 where
   pub lane : bit 0 (a .enables) ≡ true
   pub value : v ≡ keptAs (wide (x .state)) (laneByte 0 (a .word))
 
--- entry e took colour c: three writes of one entry's components, red, green and blue, with no access to address or palette data between them, the
--- address being e, and after them no access of the list stores the entry
+-- entry e took colour c: three writes of one entry's components, red, green and blue, with no access between them that sets the address or
+-- reads or writes a component, the address being e, and after them no access of the list stores the entry
 pub record Three (x : World) (l : List Access) (e : ℕ) (c : Colour) : Type 0 where
   pub start : List Access
   pub red : Access

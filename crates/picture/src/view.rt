@@ -143,7 +143,7 @@ pub(crate) fn table_word<'a>(
     ensures { λ r. ⌜ r ≡ shownWord shown (colourWord (entryOf (paletteOf (now (red .entry)) (now (green .entry)) (now (blue .entry)) (now (stored .entry))) (inside b mask))) ⌝ }
 {
     match shown {
-        Shown::All(w) => w,
+        Shown::All(v) => v,
         Shown::Each => entry_word(red, green, blue, stored, entry_index(b, mask)),
     }
 }

@@ -26,7 +26,7 @@ use Rattle.chip.proofs.Lent.{lane-back}
 use Rattle.chip.proofs.Redraw.{redrawn-length, redrawn-at, diffs-le}
 use Rattle.picture.specs.Draw.{fits, Redraws}
 use Rattle.picture.specs.Poke.{Pokes}
-use Rattle.picture.proofs.Parts.{diffs-add, still-redraws}
+use Rattle.picture.proofs.Parts.{diffs-add, still, still-redraws}
 use Rattle.picture.proofs.FitLaws.{panel-product, fit-panel, fit-size}
 use Rattle.model.specs.Lanes.{placeIn, laneIn, LaneIn, WindowIn}
 use Rattle.model.proofs.DoneLaws.{redraws-by, settles}
@@ -74,9 +74,6 @@ chosen-first x y z p e = rw (e, eq-eqb y y refl)
 chosen-last : (x y z p : ℕ) → y ≡ z → chosen y z (chosen x y p) ≡ chosen x z p
 chosen-last x y z p e = rw (e, eq-eqb z z refl)
 
-still-first : (x y p : ℕ) → x ≡ y → p ≡ chosen x y p
-still-first x y p e = rw (e, eq-eqb y y refl)
-
 module _ (f g h : ℕ → ℕ) (l : List ℕ) (r : ℕ) (k : List ℕ) (q : ℕ) (n : List ℕ) (once : (j : ℕ) → (f j ≡ g j) ⊎ (g j ≡ h j))
     (d : Redraws true f g l r k) (e : Redraws true g h k q n) where
   size-k : length k ≡ length l
@@ -96,8 +93,8 @@ module _ (f g h : ℕ → ℕ) (l : List ℕ) (r : ℕ) (k : List ℕ) (q : ℕ)
   whole j (inr p) = chosen-last (f j) (g j) (h j) (getD l j 0) p
 
   one-still : (j : ℕ) → j < length l → (f j ≡ g j) ⊎ (g j ≡ h j) → (getD l j 0 ≡ getD k j 0) ⊎ (getD k j 0 ≡ getD n j 0)
-  one-still j b (inl p) = inl (still-first (f j) (g j) (getD l j 0) p ∙ sym (at-k j b))
-  one-still j b (inr p) = inr (still-first (g j) (h j) (getD k j 0) p ∙ sym (at-n j b))
+  one-still j b (inl p) = inl (still (f j) (g j) (getD l j 0) p ∙ sym (at-k j b))
+  one-still j b (inr p) = inr (still (g j) (h j) (getD k j 0) p ∙ sym (at-n j b))
 
   drawn-n : n ≡ redrawn f h l
   drawn-n =

@@ -13,10 +13,11 @@ use Rattle.bits.specs.Choose.{pick}
 use Rattle.bits.specs.Bit.{bit}
 use Rattle.bits.specs.Word.{laneByte}
 use Rattle.bits.proofs.Cases.{byTest, pick-by}
-use Rattle.bits.proofs.Bools.{and-first, and-second}
+use Rattle.bits.proofs.Bools.{and-first, and-second, and-false}
 use Rattle.chip.specs.declared.State.{State}
 use Rattle.chip.specs.declared.Access.{Access}
 use Rattle.chip.specs.declared.Dac.{Dac}
+use Rattle.chip.specs.declared.Place.the-variants.{PaletteData}
 use Rattle.chip.specs.Dac.{resetDac, aimedAt, advanced, afterPeek}
 use Rattle.chip.specs.Patch.{applied}
 use Rattle.chip.specs.Place.{placeOf}
@@ -29,7 +30,9 @@ use Rattle.promises.specs.Good.{Good, Openable, statusAt}
 use Rattle.promises.specs.Along.{runs, lastPut}
 use Rattle.promises.specs.Reach.{reachAt}
 use Rattle.promises.specs.History.{accepted, isData, isAim, aimPut, dataSteps}
-use Rattle.promises.specs.Origin.{dacPut, SetsAddress, AddressSet, AddressAt, WritesComponent}
+use Rattle.promises.specs.Loads.{WritesPart}
+use Rattle.promises.specs.Origin.{SetsAddress, AddressSet, AddressAt}
+use Rattle.promises.proofs.Patches.{dacPut}
 use Rattle.promises.proofs.Sane.{sane}
 use Rattle.promises.proofs.Dacs.{paint-advances}
 use Rattle.promises.proofs.Does.{stepped, does}
@@ -57,15 +60,18 @@ sets-address x a e =
       value = refl;
     }
 
-pub writes-component : (x : World) (a : Access) → isWrite a ≡ true → isData x a ≡ true → WritesComponent x a (keptFrom (x .state) a)
+pub writes-part : (x : World) (a : Access) → isWrite a ≡ true → isData x a ≡ true
+    → WritesPart x a (x .state .dac .address) (x .state .dac .component) (keptFrom (x .state) a)
 unfolding isData accepted keptFrom
-writes-component x a w e =
+writes-part x a w e =
     let r = and-second (eqb (statusAt x a) 0) _ e in
     record {
       accepted = eqb-true (statusAt x a) 0 (and-first (eqb (statusAt x a) 0) _ e);
       write = w;
       place = names (placeOf (x .state) a) .paints (and-first (reachAt (placeOf (x .state) a) .paints) (bit 0 (a .enables)) r);
       lane = and-second (reachAt (placeOf (x .state) a) .paints) (bit 0 (a .enables)) r;
+      entry = refl;
+      component = refl;
       value = refl;
     }
 
@@ -73,6 +79,14 @@ writes-component x a w e =
 is-aim : (x : World) (a : Access) (v : ℕ) → SetsAddress x a v → isAim x a ≡ true
 unfolding isAim accepted reachAt
 is-aim x a v q = simp (eq-eqb (statusAt x a) 0 (q .accepted), q .write, q .place, q .lane)
+
+-- an access to palette data sets no address
+pub data-not-aim : (x : World) (a : Access) → isData x a ≡ true → isAim x a ≡ false
+unfolding isData isAim reachAt
+data-not-aim x a e =
+    let p : placeOf (x .state) a ≡ PaletteData =
+    names (placeOf (x .state) a) .paints (and-first (reachAt (placeOf (x .state) a) .paints) _ (and-second (accepted x a) _ e)) in
+    simp (p, and-false)
 
 -- ---- one access moves the position by one, or not at all
 
@@ -93,7 +107,7 @@ advanced-moved d n r g ha hc =
 still-moved : (d : Dac) → d .address < 256 → d .component ≤ 2 → Moved d d 0
 still-moved d ha hc = record { place = omega arith; known = refl }
 
-component-le : (x : World) → Good x → x .state .dac .component ≤ 2
+pub component-le : (x : World) → Good x → x .state .dac .component ≤ 2
 unfolding componentOk
 component-le x g = leb-true (x .state .dac .component) 2 (sane (x .state) (g .state) .component)
 

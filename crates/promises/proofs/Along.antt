@@ -1,9 +1,9 @@
 -- What a place holds after a list of steps, for any machine: what a step put there last, and else what it held.
 -- By induction on the list, from the law of one step. Assumes nothing.
-use mathlib.Core.List.{List, [], _∷_}
+use mathlib.Core.List.{List, [], _∷_, _++_}
 use mathlib.Core.Logic.{_⊎_, inl, inr}
 use mathlib.Core.Option.{Option, none, some, Option·getD}
-use mathlib.Core.Path.{_≡_, refl, sym, ap, _∙_, subst}
+use mathlib.Core.Path.{_≡_, refl, sym, ap, ap₂, _∙_, subst}
 use Rattle.promises.specs.Along.{runs, laterOf, lastPut, PutLast, PutNever}
 
 -- nothing was put last where nothing was put
@@ -48,6 +48,16 @@ module _ {W A C : Type 0} (step : W → A → W) (puts : W → A → Option C) w
                 };
           })
       go (inr n) = none-before x a l n (puts x a) refl
+
+  -- nothing is put exactly where no step of the list puts anything
+  pub silent-in : (x : W) (b : List A) (a : A) (r : List A) → lastPut step puts x (b ++ a ∷ r) ≡ none → puts (runs step x b) a ≡ none
+  silent-in x [] a r e = later-none (lastPut step puts (step x a) r) (puts x a) e .1
+  silent-in x (c ∷ b) a r e = silent-in (step x c) b a r (later-none (lastPut step puts (step x c) (b ++ a ∷ r)) (puts x c) e .0)
+
+  pub silent-all : (x : W) (l : List A) → ((b : List A) (a : A) (r : List A) → l ≡ b ++ a ∷ r → puts (runs step x b) a ≡ none) → lastPut step puts x l ≡ none
+  silent-all x [] f = refl
+  silent-all x (c ∷ l) f =
+      ap₂ laterOf (silent-all (step x c) l (λ b a r e. f (c ∷ b) a r (ap (λ (k : List A). c ∷ k) e))) (f [] c l refl)
 
 module _ {W A C : Type 0} (step : W → A → W) (puts : W → A → Option C) (read : W → C) (Good : W → Type 0)
     (keeps : (x : W) (a : A) → Good x → Good (step x a))

@@ -26,8 +26,9 @@ use Rattle.chip.specs.Step.{Outcome, refused, settled, seenBy, doneBy, givenBy,
 use Rattle.chip.specs.Trace.{World, step, after}
 use Rattle.chip.proofs.Redraw.{redrawn-alike}
 use Rattle.promises.specs.Good.{statusAt}
-use Rattle.promises.specs.History.{accepted, patchAt}
+use Rattle.promises.specs.History.{accepted}
 use Rattle.promises.specs.View.{StepsOnly, LeavesRest}
+use Rattle.promises.proofs.Patches.{patchAt}
 use Rattle.promises.proofs.Does.{writes, does}
 use Rattle.promises.proofs.Worlds.{after-state, after-memory}
 use Rattle.promises.proofs.Shown.{enables-lt}

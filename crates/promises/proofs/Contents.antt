@@ -31,8 +31,9 @@ use Rattle.chip.proofs.Entries.{Entries, entry-stored}
 use Rattle.promises.specs.Good.{Formed, Good}
 use Rattle.promises.specs.Along.{laterOf}
 use Rattle.promises.specs.Reach.{reachAt}
-use Rattle.promises.specs.History.{patchAt, seenBit, Spot, Real, holds, putsBit, lastPoke, putsEntry}
+use Rattle.promises.specs.History.{seenBit, Spot, Real, holds}
 use Rattle.promises.specs.Frame.{SameBit}
+use Rattle.promises.proofs.Patches.{patchAt, putsBit, lastPoke, putsEntry}
 use Rattle.promises.proofs.Bank.{stored-lt}
 use Rattle.promises.proofs.Does.{storeFrom, writes, does}
 use Rattle.promises.proofs.Worlds.{after-state, after-memory}
@@ -140,10 +141,10 @@ poked-at k m (x ∷ l) h =
     ∙ ap (Option·getD (lastPoke k l)) (getD-set m (x .at .0) k (x .byte) 0 h ∙ one-byte (eqb (x .at .0) k) (x .byte) (getD m k 0))
     ∙ later-byte (lastPoke k l) (pick (eqb (x .at .0) k) (some (x .byte)) none) (getD m k 0)
 
-pub byte-step : (k : ℕ) (x : World) (a : Access) → k < length (x .memory)
+pub poked-step : (k : ℕ) (x : World) (a : Access) → k < length (x .memory)
     → getD (after x a .memory) k 0 ≡ Option·getD (lastPoke k (patchAt x a .puts)) (getD (x .memory) k 0)
 unfolding memoryWith
-byte-step k x a h = ap (λ (m : List ℕ). getD m k 0) (after-memory x a) ∙ poked-at k (x .memory) (patchAt x a .puts) h
+poked-step k x a h = ap (λ (m : List ℕ). getD m k 0) (after-memory x a) ∙ poked-at k (x .memory) (patchAt x a .puts) h
 
 -- ---- a palette entry after it was painted
 

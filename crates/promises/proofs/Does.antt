@@ -24,7 +24,8 @@ use Rattle.chip.specs.Refusal.{isWrite, portOf}
 use Rattle.chip.specs.Step.{patchOf}
 use Rattle.chip.specs.Trace.{World}
 use Rattle.promises.specs.Reach.{reachAt}
-use Rattle.promises.specs.History.{accepted, patchAt, isData, isAim}
+use Rattle.promises.specs.History.{accepted, isData, isAim}
+use Rattle.promises.proofs.Patches.{patchAt}
 
 -- what a write stores of the register in a row, and of memory through a window
 abbrev pub storeFrom : State → Access → Option ℕ → Option Store

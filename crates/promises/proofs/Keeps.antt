@@ -27,7 +27,8 @@ use Rattle.chip.specs.Trace.{World}
 use Rattle.chip.proofs.Entries.{Entries, entries-kept, palette-kept}
 use Rattle.promises.specs.Good.{Formed, Good}
 use Rattle.promises.specs.Reach.{reachAt}
-use Rattle.promises.specs.History.{accepted, patchAt, isAim, isData}
+use Rattle.promises.specs.History.{accepted, isAim, isData}
+use Rattle.promises.proofs.Patches.{patchAt}
 use Rattle.promises.proofs.Sane.{Sane, sane}
 use Rattle.promises.proofs.Bank.{bank-kept, once-kept}
 use Rattle.promises.proofs.Dacs.{Settled, paint-advances, advanced-settled, aimed-settled, lane-byte-lt}

@@ -1,114 +1,149 @@
--- What an aperture write puts into a byte: the byte of a lane that is enabled and reaches it, and nothing where no lane does.
--- Lane by lane; a lane stores one byte at each of its places. Assumes nothing.
-use Prim.Native.Nat.{ℕ}
-use mathlib.Core.Bool.{Bool, true, false, _||_}
-use mathlib.Core.List.{List, [], _∷_}
-use mathlib.Core.Option.{Option, none, some, Option·getD}
+-- What an aperture write stores in a byte is its lane's byte, where the lane is enabled; and what a read gives in a lane is its byte.
+-- The lanes' rule and its inverse agree, by one computed test over the swap codes; the four lanes one by one. Assumes nothing.
+use Prim.Native.Nat.{ℕ, _+_, _-_, _%_, _<_, _≤_}
+use mathlib.Core.Bool.{Bool, true, _&&_, Bool·beq}
+use mathlib.Core.List.{List, []}
+use mathlib.Core.Option.{Option, none, some}
 use mathlib.Core.Path.{_≡_, refl, sym, ap, _∙_}
 use native.Mathlib.Omega.{arith}
-use lib.Dec.{eqb}
-use Rattle.bits.specs.Choose.{pick, someTo}
+use borrow.Author.Tests.{eq-eqb, ne-eqb, eqb-true, eqb-false, leb-true, leb-false, ltb-true, ltb-false}
+use lib.Dec.{eqb, leb, ltb}
+use lib.ListN.{getD}
+use Rattle.bits.specs.Choose.{pick, everyTo}
 use Rattle.bits.specs.Bit.{bit}
 use Rattle.bits.specs.Word.{laneByte}
 use Rattle.bits.proofs.Cases.{byTest}
+use Rattle.bits.proofs.Bools.{and-first, and-second, and-false, and-true, every-at}
+use Rattle.bits.proofs.Words.{beq-true}
+use Rattle.bits.proofs.Lanes.{by-lane}
 use Rattle.chip.specs.declared.Access.{Access}
-use Rattle.chip.specs.declared.Bytes.{Bytes}
 use Rattle.chip.specs.Units.{atByte}
-use Rattle.chip.specs.Aperture.{Put, reach, putEach, putLane, putsOf}
+use Rattle.chip.specs.Aperture.{Put, swapOf, laneOf, reach, readLane, putLane, putsOf}
 use Rattle.promises.specs.Along.{laterOf}
-use Rattle.promises.specs.History.{lastPoke}
-use Rattle.promises.specs.Frame.{among, laneReach}
+use Rattle.promises.specs.Frame.{laneAt, lanePut}
+use Rattle.promises.proofs.Patches.{lastPoke}
 
--- ---- one lane
+-- ---- the lanes
 
-later-assoc : (p q r : Option ℕ) → laterOf (laterOf p q) r ≡ laterOf p (laterOf q r)
-later-assoc none q r = refl
-later-assoc (some v) q r = refl
+-- by the swap code: the byte of lane j is i exactly where the lane of byte i is j, and a lane is below 4
+codes-agree : ℕ → ℕ → ℕ → Bool
+codes-agree n j i = Bool·beq (eqb (laneOf n j) i) (eqb j (laneAt n i)) && (ltb (laneOf n j) 4 && ltb (laneAt n i) 4)
+
+codes-all : everyTo (λ n. everyTo (λ j. everyTo (codes-agree n j) 4) 4) 4 ≡ true
+unfolding codes-agree laneOf swapOf laneAt
+codes-all = refl
+
+-- only the code counts
+lane-code : (c j : ℕ) → laneOf c j ≡ laneOf (c % 4) j
+unfolding laneOf swapOf
+lane-code c j = let e : c % 4 % 4 ≡ c % 4 = omega arith in simp e
+
+at-code : (c i : ℕ) → laneAt c i ≡ laneAt (c % 4) i
+unfolding laneAt
+at-code c i = let e : c % 4 % 4 ≡ c % 4 = omega arith in simp e
+
+record Codes (c j i : ℕ) : Type 0 where
+  agree : eqb (laneOf c j) i ≡ eqb j (laneAt c i)
+  lane : laneOf c j < 4
+  byte : laneAt c i < 4
+
+codes : (c j i : ℕ) → j < 4 → i < 4 → Codes c j i
+unfolding codes-agree
+codes c j i hj hi =
+    let t = every-at (codes-agree (c % 4) j) 4 i (every-at (λ j. everyTo (codes-agree (c % 4) j) 4) 4 j (every-at (λ n. everyTo (λ j. everyTo (codes-agree n j) 4) 4) 4 (c % 4) codes-all (omega arith)) hj) hi in
+    let u = and-second (Bool·beq (eqb (laneOf (c % 4) j) i) (eqb j (laneAt (c % 4) i))) _ t in
+    record {
+      agree = rw (lane-code c j, at-code c i) (beq-true _ _ (and-first (Bool·beq (eqb (laneOf (c % 4) j) i) (eqb j (laneAt (c % 4) i))) _ t));
+      lane = rw (lane-code c j) (ltb-true _ 4 (and-first (ltb (laneOf (c % 4) j) 4) _ u));
+      byte = rw (at-code c i) (ltb-true _ 4 (and-second (ltb (laneOf (c % 4) j) 4) _ u));
+    }
+
+-- ---- a write
 
 later-left : (p : Option ℕ) → laterOf p none ≡ p
 later-left none = refl
 later-left (some v) = refl
 
--- one value or none, twice
-twice : (t u : Bool) (v : ℕ) → laterOf (pick u (some v) none) (pick t (some v) none) ≡ pick (t || u) (some v) none
-twice true true v = refl
-twice true false v = refl
-twice false true v = refl
-twice false false v = refl
+-- four lanes of which one has something
+only-one : (x : Option ℕ) (n : ℕ) → n < 4
+    → laterOf (laterOf (laterOf (pick (eqb 3 n) x none) (pick (eqb 2 n) x none)) (pick (eqb 1 n) x none)) (pick (eqb 0 n) x none) ≡ x
+only-one x =
+    by-lane
+    (λ (n : ℕ).
+    laterOf (laterOf (laterOf (pick (eqb 3 n) x none) (pick (eqb 2 n) x none)) (pick (eqb 1 n) x none)) (pick (eqb 0 n) x none) ≡ x)
+    refl (later-left x) (simp later-left) (simp later-left)
 
-poke-each : (k v : ℕ) (bs : List Bytes) (l : List Put) → lastPoke k (putEach v bs l) ≡ laterOf (lastPoke k l) (pick (among k bs) (some v) none)
-poke-each k v [] l = sym (later-left (lastPoke k l))
-poke-each k v (b ∷ bs) l =
-    ap (λ (p : Option ℕ). laterOf p (pick (eqb (b .0) k) (some v) none)) (poke-each k v bs l)
-    ∙ later-assoc (lastPoke k l) _ _ ∙ ap (laterOf (lastPoke k l)) (twice (eqb (b .0) k) (among k bs) v)
+eqb-since : (o n k : ℕ) → o ≤ k → eqb (o + n) k ≡ eqb n (k - o)
+eqb-since o n k h =
+    byTest (eqb n (k - o))
+    (λ t. let e = eqb-true n (k - o) t in eq-eqb (o + n) k (omega arith) ∙ sym t)
+    (λ t. let d = eqb-false n (k - o) t in ne-eqb (o + n) k (λ e. d (omega arith)) ∙ sym t)
 
 module _ (c : ℕ) (a : Access) (k : ℕ) where
   -- what lane j puts there
   one : ℕ → Option ℕ
-  one j = pick (laneReach c a k j) (some (laneByte j (a .word))) none
+  one j = pick (bit j (a .enables) && eqb (a .offset + laneOf c j) k) (some (laneByte j (a .word))) none
 
   poke-lane : (j : ℕ) (l : List Put) → lastPoke k (putLane c (atByte (a .offset)) (a .enables) (a .word) j l) ≡ laterOf (lastPoke k l) (one j)
-  unfolding putLane one laneReach
-  poke-lane j l =
-      byTest (bit j (a .enables))
-      (λ t. simp t (poke-each k (laneByte j (a .word)) (reach c true [] (atByte (a .offset)) j) l))
-      (λ t. simp t (sym (later-left (lastPoke k l))))
+  unfolding putLane one reach
+  poke-lane j l = byTest (bit j (a .enables)) (λ t. simp t) (λ t. simp t (sym (later-left (lastPoke k l))))
 
-  -- ---- the four
-
-  puts : List Put
-  puts = putsOf c (atByte (a .offset)) (a .enables) (a .word)
-
-  four : Option ℕ
-  four = laterOf (laterOf (laterOf (one 3) (one 2)) (one 1)) (one 0)
-
-  poke-four : lastPoke k puts ≡ four
-  unfolding putsOf puts four
+  poke-four : lastPoke k (putsOf c (atByte (a .offset)) (a .enables) (a .word)) ≡ laterOf (laterOf (laterOf (one 3) (one 2)) (one 1)) (one 0)
+  unfolding putsOf
   poke-four =
       poke-lane 0 _
       ∙ ap (λ (p : Option ℕ). laterOf p (one 0))
       (poke-lane 1 _ ∙ ap (λ (p : Option ℕ). laterOf p (one 1)) (poke-lane 2 _ ∙ ap (λ (p : Option ℕ). laterOf p (one 2)) (poke-lane 3 [])))
 
-  one-none : (j : ℕ) → laneReach c a k j ≡ false → one j ≡ none
+  -- a byte that is none of the four
+  one-none : (j : ℕ) → (a .offset + laneOf c j ≡ k → ⊥) → one j ≡ none
   unfolding one
-  one-none j e = simp e
+  one-none j d = simp (ne-eqb (a .offset + laneOf c j) k d, and-false)
 
-  pub none-poked : someTo (laneReach c a k) 4 ≡ false → lastPoke k (putsOf c (atByte (a .offset)) (a .enables) (a .word)) ≡ none
-  unfolding puts four
-  none-poked e =
-      let q = or-none _ (laneReach c a k 3) e in
-      let r = or-none _ (laneReach c a k 2) (q .0) in
-      let s = or-none _ (laneReach c a k 1) (r .0) in
-      poke-four ∙ simp (one-none 3 (q .1), one-none 2 (r .1), one-none 1 (s .1), one-none 0 (s .0))
-    where
-      or-none : (t u : Bool) → (t || u) ≡ false → (t ≡ false) × (u ≡ false)
-      or-none true u e = (e, cc)
-      or-none false u e = (refl, e)
+  poke-none : ((n : ℕ) → n < 4 → a .offset + n ≡ k → ⊥) → lastPoke k (putsOf c (atByte (a .offset)) (a .enables) (a .word)) ≡ none
+  poke-none d =
+      poke-four
+      ∙ simp (
+        one-none 3 (d _ (codes c 3 0 (omega arith) (omega arith) .lane)),
+        one-none 2 (d _ (codes c 2 0 (omega arith) (omega arith) .lane)),
+        one-none 1 (d _ (codes c 1 0 (omega arith) (omega arith) .lane)),
+        one-none 0 (d _ (codes c 0 0 (omega arith) (omega arith) .lane)),
+      )
 
-  -- ---- the lane that put what is there
+  -- one of the four
+  module _ (h : a .offset ≤ k) (u : k < a .offset + 4) where
+    its : Option ℕ
+    its = pick (bit (laneAt c (k - a .offset)) (a .enables)) (some (laneByte (laneAt c (k - a .offset)) (a .word))) none
 
-  pub record LanePut (v : ℕ) : Type 0 where
-    pub lane : ℕ
-    pub reached : laneReach c a k lane ≡ true
-    pub value : v ≡ laneByte lane (a .word)
+    one-its : (j : ℕ) → j < 4 → one j ≡ pick (eqb j (laneAt c (k - a .offset))) its none
+    unfolding one its
+    one-its j hj =
+        let e : eqb (a .offset + laneOf c j) k ≡ eqb j (laneAt c (k - a .offset)) =
+        eqb-since (a .offset) (laneOf c j) k h ∙ codes c j (k - a .offset) hj (omega arith) .agree in
+        byTest (eqb j (laneAt c (k - a .offset)))
+        (λ t. let d : j ≡ laneAt c (k - a .offset) = eqb-true j _ t in
+        simp (e, t, and-true) (ap (λ (n : ℕ). pick (bit n (a .enables)) (some (laneByte n (a .word))) none) d))
+        (λ t. simp (e, t, and-false))
 
-  one-some : (j v : ℕ) → one j ≡ some v → LanePut v
-  unfolding one
-  one-some j v e =
-      byTest (laneReach c a k j)
-      (λ t. record { lane = j; reached = t; value = sym (ap (λ (o : Option ℕ). Option·getD o (laneByte j (a .word))) (simp t at e)) })
-      (λ t. never (simp t at e))
-    where
-      never : _≡_ {A = Option ℕ} none (some v) → LanePut v
-      never e = absurd (let z : _≡_ {A = ℕ} 0 1 = cc in omega arith)
+    poke-its : lastPoke k (putsOf c (atByte (a .offset)) (a .enables) (a .word)) ≡ its
+    poke-its =
+        poke-four
+        ∙ simp (one-its 3 (omega arith), one-its 2 (omega arith), one-its 1 (omega arith), one-its 0 (omega arith))
+        (only-one its (laneAt c (k - a .offset)) (codes c 0 (k - a .offset) (omega arith) (omega arith) .byte))
 
-  later-some : (p q : Option ℕ) (v : ℕ) → (p ≡ some v → LanePut v) → (q ≡ some v → LanePut v) → laterOf p q ≡ some v → LanePut v
-  later-some none q v f g e = g e
-  later-some (some u) q v f g e = f e
+  -- what the write stores in byte k
+  pub poke-told : lastPoke k (putsOf c (atByte (a .offset)) (a .enables) (a .word)) ≡ lanePut c a k
+  unfolding lanePut its
+  poke-told =
+      byTest (leb (a .offset) k)
+      (λ t. byTest (ltb k (a .offset + 4))
+      (λ u. simp (t, u) (poke-its (leb-true _ k t) (ltb-true k _ u)))
+      (λ u. simp (t, u) (poke-none (λ n hn e. let b = ltb-false k _ u in omega arith))))
+      (λ t. simp t (poke-none (λ n hn e. let b = leb-false _ k t in omega arith)))
 
-  pub lane-put : (v : ℕ) → lastPoke k (putsOf c (atByte (a .offset)) (a .enables) (a .word)) ≡ some v → LanePut v
-  unfolding puts four
-  lane-put v e =
-      later-some (laterOf (laterOf (one 3) (one 2)) (one 1)) (one 0) v
-      (later-some (laterOf (one 3) (one 2)) (one 1) v (later-some (one 3) (one 2) v (one-some 3 v) (one-some 2 v)) (one-some 1 v)) (one-some 0 v)
-      (sym poke-four ∙ e)
+-- ---- a read
+
+-- what it gives in lane j
+pub lane-told : (c : ℕ) (m : List ℕ) (o j : ℕ) → readLane c m (atByte o) j ≡ getD m (o + laneAt c j) 0
+unfolding readLane reach laneOf swapOf laneAt
+lane-told c m o j = refl

@@ -1,14 +1,30 @@
--- Promise 1, refusal 1 in 01's words: a register's fault word is zero exactly where each of its bits is sound.
--- From the law of a word without faults, and the four parts of a bit's fault. Assumes nothing.
-use Prim.Native.Nat.{ℕ, _^_, _<_}
+-- Promise 1, refusal 1 in 01's words: a state is one exactly where each of its clauses holds.
+-- Clause by clause; a register's fault word is zero exactly where each of its bits is sound. Assumes nothing.
+use Prim.Native.Nat.{ℕ, _%_, _^_, _<_, _≤_}
 use mathlib.Core.Bool.{Bool, true, false, not, _&&_}
-use mathlib.Core.Logic.{_↔_}
-use mathlib.Core.Path.{_≡_, refl, sym}
+use mathlib.Core.Logic.{_↔_, _⊎_, inl, inr}
+use mathlib.Core.Path.{_≡_, refl, sym, subst}
+use native.Mathlib.Omega.{arith}
+use borrow.Author.Tests.{eqb-true, eqb-false, eq-eqb, leb-true, le-leb}
+use lib.Dec.{eqb, leb}
+use lib.ListN.{getD}
 use Rattle.bits.specs.Bit.{bit, differs}
-use Rattle.bits.proofs.Words.{clear, clear-not}
-use Rattle.chip.specs.Register.{faults}
+use Rattle.bits.proofs.Cases.{byTest, pick-by}
+use Rattle.bits.proofs.Bools.{and-first, and-second, every-at, every-all}
+use Rattle.bits.proofs.Single.{bit-of-zero}
+use Rattle.bits.proofs.Words.{clear, clear-not, bit-joined}
+use Rattle.chip.specs.declared.State.{State}
+use Rattle.chip.specs.declared.Palette.{Palette}
+use Rattle.chip.specs.Bank.{bankCount, bankRow, subsystem}
+use Rattle.chip.specs.Subsystem.{halfBits, exempt}
+use Rattle.chip.specs.Register.{mayChange, faults}
+use Rattle.chip.specs.Palette.{entryCount, entryOk, paletteOk}
+use Rattle.chip.specs.Sound.{panelOk, memoryOk, componentOk, addressOk, onceOk, rowOk, bankSound, isState}
 use Rattle.chip.proofs.Faults.{fault-parts, fault-none, faults-at, faults-none}
-use Rattle.promises.specs.Soundness.{SoundBit}
+use Rattle.chip.proofs.Tables.{bank-rule}
+use Rattle.promises.specs.Refusals.{SoundBit, freeBit, SoundEntry, IsState}
+use Rattle.promises.proofs.Sane.{sane, is-state}
+use Rattle.promises.proofs.Moved.{half-bit, half-lt}
 
 -- the parts of a bit's fault, each way
 fixed : (x r w : Bool) → (differs x r && not w) ≡ false → w ≡ false → x ≡ r
@@ -48,8 +64,13 @@ contra-back true true f = refl
 contra-back true false f = f refl
 contra-back false c f = refl
 
+-- ---- a register's fault word
+
+abbrev Sound : (v k w r t b : ℕ) → Type 0
+Sound v k w r t b = SoundBit (bit b v) (bit b k) (bit b w) (bit b r) (bit b t)
+
 module _ (v k w r t : ℕ) (hk : k < 2 ^ 32) (hw : w < 2 ^ 32) where
-  sound-of : faults v k w r t ≡ 0 → (b : ℕ) → b < 32 → SoundBit v k w r t b
+  sound-of : faults v k w r t ≡ 0 → (b : ℕ) → b < 32 → Sound v k w r t b
   sound-of e b hb =
       let p = fault-parts (bit b v) (bit b k) (clear b k) (clear b w) (bit b r) (bit b t) (faults-at b v k w r t e) in
       record {
@@ -59,7 +80,7 @@ module _ (v k w r t : ℕ) (hk : k < 2 ^ 32) (hw : w < 2 ^ 32) where
         zero = contra (bit b v) (bit b k) (rw (clear-not b k hb hk) at (p .zero));
       }
 
-  of-sound : ((b : ℕ) → b < 32 → SoundBit v k w r t b) → faults v k w r t ≡ 0
+  of-sound : ((b : ℕ) → b < 32 → Sound v k w r t b) → faults v k w r t ≡ 0
   of-sound f =
       faults-none v k w r t (λ b hb.
       fault-none (bit b v) (bit b k) (clear b k) (clear b w) (bit b r) (bit b t)
@@ -70,6 +91,97 @@ module _ (v k w r t : ℕ) (hk : k < 2 ^ 32) (hw : w < 2 ^ 32) where
         zero = rw (clear-not b k hb hk) (contra-back (bit b v) (bit b k) (f b hb .zero));
       }))
 
-  -- of a register of the bank, and of the palette address
-  pub fault-means : (faults v k w r t ≡ 0) ↔ ((b : ℕ) → b < 32 → SoundBit v k w r t b)
-  fault-means = (sound-of, of-sound)
+-- ---- what a write may change
+
+exempt-bit : (once i b : ℕ) → once < 4 → b < 32 → bit b (exempt once i) ≡ freeBit once i b
+unfolding exempt freeBit mayChange
+exempt-bit once i b ho hb = byTest (eqb i subsystem) (λ t. simp t (half-bit once b ho hb)) (λ t. simp (t, bit-joined))
+
+exempt-lt : (once i : ℕ) → once < 4 → i < bankCount → exempt once i < 2 ^ 32
+unfolding exempt
+exempt-lt once i ho hi = pick-by (λ (k : ℕ). k < 2 ^ 32) (eqb i subsystem) (halfBits once) (mayChange (bankRow i)) (half-lt once ho) (bank-rule i hi .bits)
+
+-- ---- a palette entry
+
+entry-sound : (p : Palette) (e : ℕ) → entryOk p e ≡ true → SoundEntry p e
+unfolding entryOk
+entry-sound p e t =
+    byTest (eqb (getD (p .stored) e 0) 0)
+    (λ z.
+    let u = simp z at t in
+    let v = and-second (eqb (getD (p .red) e 0) 0) _ u in
+    record {
+      flag = inl (eqb-true _ 0 z);
+      red = λ h. eqb-true _ 0 (and-first (eqb (getD (p .red) e 0) 0) _ u);
+      green = λ h. eqb-true _ 0 (and-first (eqb (getD (p .green) e 0) 0) _ v);
+      blue = λ h. eqb-true _ 0 (and-second (eqb (getD (p .green) e 0) 0) _ v);
+    })
+    (λ z.
+    let n : getD (p .stored) e 0 ≡ 0 → ⊥ = eqb-false _ 0 z in
+    record {
+      flag = inr (eqb-true _ 1 (simp z at t));
+      red = λ h. absurd (n h);
+      green = λ h. absurd (n h);
+      blue = λ h. absurd (n h);
+    })
+
+sound-entry : (p : Palette) (e : ℕ) → SoundEntry p e → entryOk p e ≡ true
+unfolding entryOk
+sound-entry p e f = go (f .flag)
+  where
+    go : (getD (p .stored) e 0 ≡ 0) ⊎ (getD (p .stored) e 0 ≡ 1) → entryOk p e ≡ true
+    go (inl z) = simp (eq-eqb _ 0 z, eq-eqb _ 0 (f .red z), eq-eqb _ 0 (f .green z), eq-eqb _ 0 (f .blue z))
+    go (inr z) = rw z
+
+-- ---- the whole
+
+module _ (s : State) (hk : (i : ℕ) → getD (s .knowns) i 0 < 2 ^ 32) (hd : s .dac .known < 2 ^ 32) where
+  pub is-sound : isState s ≡ true → IsState s
+  unfolding panelOk memoryOk componentOk addressOk onceOk bankSound rowOk paletteOk
+  is-sound e =
+      let f = sane s e in
+      let w = and-first (leb 1 (s .width) && leb (s .width) 1024) _ (f .panel) in
+      let h = and-second (leb 1 (s .width) && leb (s .width) 1024) _ (f .panel) in
+      let m = and-second (eqb (s .fitted % 8) 0) _ (f .memory) in
+      let ho : s .once ≤ 3 = leb-true (s .once) 3 (f .once) in
+      record {
+        wide = (leb-true 1 _ (and-first (leb 1 (s .width)) _ w), leb-true _ 1024 (and-second (leb 1 (s .width)) _ w));
+        high = (leb-true 1 _ (and-first (leb 1 (s .height)) _ h), leb-true _ 1024 (and-second (leb 1 (s .height)) _ h));
+        eights = eqb-true _ 0 (and-first (eqb (s .fitted % 8) 0) _ (f .memory));
+        fitted = (leb-true 8 _ (and-first (leb 8 (s .fitted)) _ m), leb-true _ 8388608 (and-second (leb 8 (s .fitted)) _ m));
+        component = leb-true _ 2 (f .component);
+        registers = λ i b hi hb.
+            rw (← exempt-bit (s .once) i b (omega arith) hb)
+            (sound-of (getD (s .values) i 0) (getD (s .knowns) i 0) (exempt (s .once) i) (bankRow i .reset) (bankRow i .known) (hk i) (exempt-lt (s .once) i (omega arith) hi)
+            (eqb-true _ 0 (every-at (rowOk (s .once) (s .values) (s .knowns)) bankCount i (f .bank) hi)) b hb);
+        address = λ b hb.
+            subst (λ (z : Bool). SoundBit (bit b (s .dac .address)) (bit b (s .dac .known)) (bit b 0xFF) z z) (bit-of-zero b)
+            (sound-of (s .dac .address) (s .dac .known) 0xFF 0 0 hd (omega arith) (eqb-true _ 0 (f .address)) b hb);
+        flags = ho;
+        palette = λ i hi. entry-sound (s .palette) i (every-at (entryOk (s .palette)) entryCount i (f .palette) hi);
+      }
+
+  pub sound-is : IsState s → isState s ≡ true
+  unfolding panelOk memoryOk componentOk addressOk onceOk bankSound rowOk paletteOk
+  sound-is f =
+      let ho = f .flags in
+      is-state s (record {
+        panel = simp (le-leb 1 _ (f .wide .0), le-leb _ 1024 (f .wide .1), le-leb 1 _ (f .high .0), le-leb _ 1024 (f .high .1));
+        memory = simp (eq-eqb _ 0 (f .eights), le-leb 8 _ (f .fitted .0), le-leb _ 8388608 (f .fitted .1));
+        component = le-leb _ 2 (f .component);
+        address =
+            eq-eqb _ 0
+            (of-sound (s .dac .address) (s .dac .known) 0xFF 0 0 hd (omega arith) (λ b hb.
+            subst (λ (z : Bool). SoundBit (bit b (s .dac .address)) (bit b (s .dac .known)) (bit b 0xFF) z z) (sym (bit-of-zero b)) (f .address b hb)));
+        once = le-leb _ 3 ho;
+        bank =
+            every-all _ bankCount (λ i hi.
+            eq-eqb _ 0
+            (of-sound (getD (s .values) i 0) (getD (s .knowns) i 0) (exempt (s .once) i) (bankRow i .reset) (bankRow i .known) (hk i) (exempt-lt (s .once) i (omega arith) hi)
+            (λ b hb. rw (exempt-bit (s .once) i b (omega arith) hb) (f .registers i b hi hb))));
+        palette = every-all _ entryCount (λ i hi. sound-entry (s .palette) i (f .palette i hi));
+      })
+
+  -- refusal 1 is given exactly where a clause fails
+  pub state-means : (isState s ≡ true) ↔ IsState s
+  state-means = (is-sound, sound-is)

@@ -1,39 +1,103 @@
 -- Promise 3. An access alters only what it may; a word is zero where it is not known, and shows nothing in lanes that are not enabled; a write answers 0 and 0.
 -- From the laws of Only and Answers. Assumes nothing.
-use Prim.Native.Nat.{ℕ, _/_, _<_}
-use mathlib.Core.Bool.{true, false}
-use mathlib.Core.Path.{_≡_}
-use lib.ListN.{getD}
+use Prim.Native.Nat.{ℕ, _+_, _*_, _/_, _<_}
+use mathlib.Core.Bool.{Bool, true, false, not, _&&_, _||_}
+use mathlib.Core.Option.{Option, none, some, Option·getD}
+use mathlib.Core.Path.{_≡_, refl, ap, _∙_}
+use native.Mathlib.Omega.{arith}
+use lib.ListN.{getD, length}
+use Rattle.bits.specs.Choose.{pick, everyTo}
 use Rattle.bits.specs.Bit.{bit}
+use Rattle.bits.specs.Word.{laneByte}
+use Rattle.bits.proofs.Bools.{and-false, and-true, every-at}
 use Rattle.chip.specs.declared.Access.{Access}
+use Rattle.chip.specs.Bank.{bankRow, subsystem}
 use Rattle.chip.specs.Palette.{entryCount, entryOf}
 use Rattle.chip.specs.Refusal.{isWrite}
+use Rattle.chip.proofs.Computed.{computed}
 use Rattle.chip.specs.Trace.{World, step, after}
 use Rattle.promises.specs.Good.{Good}
-use Rattle.promises.specs.History.{Spot, Real}
-use Rattle.promises.specs.Frame.{reaches, SameBit, turns, completes, pokes}
+use Rattle.promises.specs.History.{Spot, spot, Real, holds, isData, isAim}
+use Rattle.promises.specs.Frame.{bitMoves, writesRow, moves, broughtBit, fixes, SameBit, Aimed, Advanced, completes, madeColour, bytePut}
+use Rattle.promises.specs.Loads.{disturbs}
 use Rattle.promises.specs.View.{LeavesRest}
 use Rattle.promises.proofs.Worlds.{Sizes, sizes-kept}
-use Rattle.promises.proofs.Only.{same-bit, same-entry, same-dac, same-byte}
+use Rattle.promises.proofs.Moves.{bit-step, same-bit, flag-step}
+use Rattle.promises.proofs.MemoryBytes.{byte-step, same-byte}
+use Rattle.promises.proofs.Only.{entry-after, aim-after, data-after, calm-after}
 use Rattle.promises.proofs.Answers.{unknown-zero, lane-off, write-answers, read-leaves}
 
+-- the subsystem numbers are a row of 32 bits, none of which a one clears
+number : (b : ℕ) → b < 32 → Real (spot subsystem b)
+number b h = record { row = omega arith; bit = h }
+
+uncleared : ℕ → Bool
+uncleared b = not (bit b (bankRow subsystem .clears))
+
+uncleared-all : everyTo uncleared 32 ≡ true
+unfolding uncleared computed
+uncleared-all = refl
+
+never-cleared : (b : ℕ) → b < 32 → not (bit b (bankRow subsystem .clears)) ≡ true
+unfolding uncleared
+never-cleared b h = every-at uncleared 32 b uncleared-all h
+
 module _ (x : World) (a : Access) (g : Good x) where
-  -- a register's bit that it does not reach is as before, in value and in being known
-  pub bits-stay : (q : Spot) → Real q → reaches (x .state) a q ≡ false → SameBit (x .state) (after x a .state) q
+  -- a register's bit that it moves is known, with the word's bit, or zero where a one clears ..
+  pub bits-move : (q : Spot) → Real q → moves x a q ≡ true → holds (after x a .state) q ≡ some (broughtBit q a)
+  bits-move q r e =
+      bit-step q r x a g ∙ ap (λ (t : Bool). Option·getD (pick t (some (some (broughtBit q a))) none) (holds (x .state) q)) e
+
+  -- .. and every other is as before, in value and in being known
+  pub bits-stay : (q : Spot) → Real q → moves x a q ≡ false → SameBit (x .state) (after x a .state) q
   bits-stay q = same-bit x a q g
 
-  -- a palette entry that it does not complete is as before
-  pub entries-stay : (e : ℕ) → e < entryCount → completes (x .state) a e ≡ false
-      → entryOf (after x a .state .palette) e ≡ entryOf (x .state .palette) e
-  entries-stay e = same-entry x a e g
+  -- the flags of the subsystem numbers: an accepted write of 2Ch with both lanes of a number sets its flag, and nothing else alters one
+  pub flags-move : (n : ℕ) → n < 2 → bit n (after x a .state .once) ≡ (bit n (x .state .once) || fixes x a n)
+  flags-move = flag-step x a
 
-  -- a memory byte that it does not reach is as before
-  pub bytes-stay : (k : ℕ) → pokes (x .state) a k ≡ false → getD (after x a .memory) k 0 ≡ getD (x .memory) k 0
+  -- a number that is fixed stays, whatever is written
+  pub number-stays : (b : ℕ) → b < 32 → bit (b / 16) (x .state .once) ≡ true → SameBit (x .state) (after x a .state) (spot subsystem b)
+  unfolding moves bitMoves
+  number-stays b hb f = bits-stay (spot subsystem b) (number b hb) (simp (f, and-false))
+
+  -- one that is not takes the word's bits with both of its lanes, and stays with one
+  pub number-fixed : (b : ℕ) → b < 32 → bit (b / 16) (x .state .once) ≡ false → fixes x a (b / 16) ≡ true
+      → holds (after x a .state) (spot subsystem b) ≡ some (bit b (a .word))
+  unfolding moves bitMoves fixes broughtBit
+  number-fixed b hb f e = bits-move (spot subsystem b) (number b hb) (simp f e) ∙ ap some (simp (never-cleared b hb, and-true))
+
+  pub number-waits : (b : ℕ) → b < 32 → fixes x a (b / 16) ≡ false → SameBit (x .state) (after x a .state) (spot subsystem b)
+  unfolding moves bitMoves fixes
+  number-waits b hb e = bits-stay (spot subsystem b) (number b hb) (under (bit (b / 16) (x .state .once)) (writesRow x a subsystem) (bit (2 * (b / 16)) (a .enables) && bit (2 * (b / 16) + 1) (a .enables)) e)
+    where
+      under : (o w l : Bool) → (w && l) ≡ false → (w && (not o && l)) ≡ false
+      under true true l e = refl
+      under true false l e = refl
+      under false w l e = e
+
+  -- a palette entry that it completes takes the colour made, and every other is as before
+  pub entries-move : (e : ℕ) → e < entryCount
+      → entryOf (after x a .state .palette) e ≡ pick (completes x a e) (some (madeColour (x .state) a)) (entryOf (x .state .palette) e)
+  entries-move e = entry-after x a e g
+
+  -- a memory byte that it stores has its lane's byte, and every other is as before
+  pub bytes-move : (k v : ℕ) → k < length (x .memory) → bytePut k x a ≡ some v → getD (after x a .memory) k 0 ≡ v
+  bytes-move k v h e = byte-step k x a h ∙ ap (λ (o : Option ℕ). Option·getD o (getD (x .memory) k 0)) e
+
+  pub bytes-stay : (k : ℕ) → bytePut k x a ≡ none → getD (after x a .memory) k 0 ≡ getD (x .memory) k 0
   bytes-stay k = same-byte x a k
 
-  -- the address, the component and the stage are as before, unless it is an access to them
-  pub pointer-stays : turns (x .state) a ≡ false → after x a .state .dac ≡ x .state .dac
-  pointer-stays = same-dac x a
+  -- setting the address sets address and component, and drops what is staged; each palette data access with lane 0 advances by one, read or written
+  pub address-sets : isAim x a ≡ true → Aimed (after x a .state .dac) (laneByte 0 (a .word))
+  address-sets = aim-after x a
+
+  pub data-advances : isData x a ≡ true → Advanced (x .state .dac) (after x a .state .dac)
+  data-advances = data-after x a g
+
+  -- no other access alters the address, the component or what is staged
+  pub pointer-stays : disturbs x a ≡ false → after x a .state .dac ≡ x .state .dac
+  pointer-stays = calm-after x a
 
 -- no access changes the panel or the memory's length
 pub sizes-stay : (x : World) (a : Access) → Sizes (x .state) (after x a .state)

@@ -1,10 +1,10 @@
 -- Promise 4. Where a known bit comes from, after an opening and any list of accesses: the reset tables, PCI's rule for offsets without a register, memory as
 -- lent, accepted writes of the list, and the palette address since it was set; nothing else is ever shown as known, and each has the value last stored.
 -- From the law of a place along any list (Along), one step at a time (Contents), and what a read shows (Shown). Assumes nothing.
-use Prim.Native.Nat.{ℕ, zero, suc, _/_, _%_, _<_}
+use Prim.Native.Nat.{ℕ, zero, suc, _/_, _+_, _%_, _<_}
 use mathlib.Core.Bool.{Bool, false}
-use mathlib.Core.List.{List}
-use mathlib.Core.Logic.{_⊎_, inl, inr}
+use mathlib.Core.List.{List, []}
+use mathlib.Core.Logic.{_↔_, _⊎_, inl, inr}
 use mathlib.Core.Option.{Option, none, some, Option·getD}
 use mathlib.Core.Path.{_≡_, refl, sym, ap, _∙_, subst}
 use native.Mathlib.Omega.{arith}
@@ -18,8 +18,6 @@ use Rattle.chip.specs.declared.Place.the-variants.{Register, Address, PaletteDa
 use Rattle.chip.specs.Bank.{indirectAt}
 use Rattle.chip.specs.Palette.{entryCount, emptyPalette, entryOf}
 use Rattle.chip.specs.Dac.{resetDac}
-use Rattle.chip.specs.Units.{atByte}
-use Rattle.chip.specs.Aperture.{readLane}
 use Rattle.chip.specs.State.{resetState}
 use Rattle.chip.specs.Place.{placeOf}
 use Rattle.chip.specs.Port.{wide}
@@ -27,15 +25,18 @@ use Rattle.chip.specs.Trace.{World, opened, step, after, run}
 use Rattle.promises.specs.Good.{Good, Openable}
 use Rattle.promises.specs.Along.{runs, lastPut, PutLast, PutNever}
 use Rattle.promises.specs.History.{seenBit, shows, partBit, Spot, spot, Real, holds, stated, aimPut}
-use Rattle.promises.specs.Origin.{bitPut, bytePut, entryPut, latest, BitStored, BitStated, ByteStored, ByteLent, AddressSet, AddressAt, Three}
+use Rattle.promises.specs.Frame.{laneAt, bytePut}
+use Rattle.promises.specs.Origin.{bitPut, latest, BitStored, BitStated, ByteStored, ByteLent, AddressSet, AddressAt}
+use Rattle.promises.specs.Loads.{NoLoad, Loaded}
 use Rattle.promises.proofs.Along.{read-along, whence}
 use Rattle.promises.proofs.Worlds.{good-kept, good-along, opened-good, opens, memory-length}
 use Rattle.promises.proofs.Sites.{row-there, indexed-there}
-use Rattle.promises.proofs.Contents.{spot-step, byte-step, entry-step}
+use Rattle.promises.proofs.MemoryBytes.{byte-step}
+use Rattle.promises.proofs.Moves.{bit-step}
 use Rattle.promises.proofs.Shown.{Accepted, found, shows-register, shows-blank, shows-address, shows-palette, shows-memory}
 use Rattle.promises.proofs.Address.{run-runs, SetBy, set-or-not, set-at, never-set}
-use Rattle.promises.proofs.ThreeWrites.{three}
-use Rattle.promises.proofs.Origins.{opened-holds, puts-stores, puts-pokes}
+use Rattle.promises.proofs.Loads.{loaded, of-loaded, never-loaded, of-unloaded}
+use Rattle.promises.proofs.Origins.{opened-holds, put-is, puts-pokes}
 
 -- an empty palette has no entry
 zeros-at : (n k : ℕ) → _≡_ {A = ℕ} (getD (replicate n 0) k 0) 0
@@ -75,37 +76,31 @@ module _ (w h : ℕ) (m p : List ℕ) (o : Openable w h m p) (l : List Access) w
   pub bit-held : (q : Spot) → Real q → holds (run (opened w h m p) l .state) q ≡ latest (bitPut q) (opened w h m p) l (stated q)
   bit-held q r =
       ap (λ (x : World). holds (x .state) q) (sym (run-runs (opened w h m p) l))
-      ∙ read-along after (bitPut q) (λ (x : World). holds (x .state) q) Good good-kept (spot-step q r) (opened w h m p) l (opened-good w h m p o)
+      ∙ read-along after (bitPut q) (λ (x : World). holds (x .state) q) Good good-kept (bit-step q r) (opened w h m p) l (opened-good w h m p o)
       ∙ ap (Option·getD (lastPut after (bitPut q) (opened w h m p) l)) (opened-holds w h m p o q)
 
   -- where a bit is known, an accepted write of the list stored it last, or none did and the tables state it
   pub bit-origin : (q : Spot) → Real q → (v : Bool) → holds (run (opened w h m p) l .state) q ≡ some v
       → BitStored (opened w h m p) l q v ⊎ BitStated (opened w h m p) l q v
-  bit-origin q r v e = go (whence after (bitPut q) (λ (x : World). holds (x .state) q) Good good-kept (spot-step q r) (opened w h m p) l (opened-good w h m p o))
+  bit-origin q r v e = go (whence after (bitPut q) (λ (x : World). holds (x .state) q) Good good-kept (bit-step q r) (opened w h m p) l (opened-good w h m p o))
     where
       final : holds (runs after (opened w h m p) l .state) q ≡ some v
       final = ap (λ (x : World). holds (x .state) q) (run-runs (opened w h m p) l) ∙ e
-
-      some-is : (x y : Bool) → some x ≡ some y → x ≡ y
-      some-is x y e = ap (λ (z : Option Bool). Option·getD z x) e
 
       go : PutLast after (bitPut q) (opened w h m p) l (holds (runs after (opened w h m p) l .state) q)
           ⊎ PutNever after (bitPut q) (opened w h m p) l (holds (opened w h m p .state) q) (holds (runs after (opened w h m p) l .state) q)
           → BitStored (opened w h m p) l q v ⊎ BitStated (opened w h m p) l q v
       go (inl f) =
           let b : runs after (opened w h m p) (f .before) ≡ run (opened w h m p) (f .before) = run-runs (opened w h m p) (f .before) in
-          let z = puts-stores (run (opened w h m p) (f .before)) (f .by) q (some v)
-          (good-along (opened w h m p) (f .before) (opened-good w h m p o)) r
+          let z = put-is (run (opened w h m p) (f .before)) (f .by) q v
           (subst (λ (y : World). bitPut q y (f .by) ≡ some (some v)) b (f .put ∙ ap some final)) in
           inl (record {
             before = f .before;
             by = f .by;
             rest = f .rest;
             split = f .split;
-            accepted = z .accepted;
-            write = z .write;
-            reached = z .reached;
-            value = some-is v _ (z .value);
+            moved = z .moved;
+            value = z .value;
             silent = subst (λ (y : World). lastPut after (bitPut q) (after y (f .by)) (f .rest) ≡ none) b (f .silent);
           })
       go (inr n) = inr (record { silent = n .silent; value = sym (opened-holds w h m p o q) ∙ sym (n .same) ∙ final })
@@ -145,9 +140,7 @@ module _ (w h : ℕ) (m p : List ℕ) (o : Openable w h m p) (l : List Access) w
             write = z .write;
             window = z .window;
             through = z .through;
-            lane = z .put .lane;
-            reached = z .put .reached;
-            value = z .put .value;
+            put = z .put;
             silent = subst (λ (y : World). lastPut after (bytePut k) (after y (f .by)) (f .rest) ≡ none) b (f .silent);
           })
       go (inr n) = inr (record { silent = n .silent; value = sym (n .same) ∙ same })
@@ -167,18 +160,19 @@ module _ (w h : ℕ) (m p : List ℕ) (o : Openable w h m p) (l : List Access) w
 
   -- ---- palette entries
 
-  -- an entry holds the colour that was completed there last, and was never stored where none was
-  pub entry-held : (e : ℕ) → e < entryCount
-      → entryOf (run (opened w h m p) l .state .palette) e ≡ latest (entryPut e) (opened w h m p) l none
-  entry-held e he =
-      ap (λ (x : World). entryOf (x .state .palette) e) (sym (run-runs (opened w h m p) l))
-      ∙ read-along after (entryPut e) (λ (x : World). entryOf (x .state .palette) e) Good good-kept (entry-step e he) (opened w h m p) l (opened-good w h m p o)
-      ∙ ap (Option·getD (lastPut after (entryPut e) (opened w h m p) l)) (opened-entry e)
+  -- an entry has a colour exactly where the list loaded it last with that colour ..
+  pub entry-exactly : (e : ℕ) → e < entryCount → (c : Colour) → (entryOf (run (opened w h m p) l .state .palette) e ≡ some c) ↔ Loaded (opened w h m p) l e c
+  entry-exactly e he c = (
+    loaded (opened w h m p) e (opened-good w h m p o) opened-stage he (opened-entry e) l c,
+    of-loaded (opened w h m p) e (opened-good w h m p o) opened-stage he (opened-entry e) l c,
+  )
 
-  -- a colour comes from three writes of the list, red, green and blue, with nothing of the palette between them
-  pub entry-origin : (e : ℕ) → e < entryCount → (c : Colour) → entryOf (run (opened w h m p) l .state .palette) e ≡ some c
-      → Three (opened w h m p) l e c
-  entry-origin e he c q = three (opened w h m p) l e c (opened-good w h m p o) he opened-stage (opened-entry e) q
+  -- .. and was never stored exactly where the list has no load of it
+  pub entry-never : (e : ℕ) → e < entryCount → (entryOf (run (opened w h m p) l .state .palette) e ≡ none) ↔ NoLoad (opened w h m p) [] l e
+  entry-never e he = (
+    never-loaded (opened w h m p) e (opened-good w h m p o) opened-stage he (opened-entry e) l,
+    of-unloaded (opened w h m p) e (opened-good w h m p o) opened-stage he (opened-entry e) l,
+  )
 
   -- ---- what a read shows, from the list alone
 
@@ -220,18 +214,13 @@ module _ (w h : ℕ) (m p : List ℕ) (o : Openable w h m p) (l : List Access) w
         → shows (step (run (opened w h m p) l) a .answer) b
         ≡ pick (bit (b / 8) (a .enables))
         (partBit (wide (run (opened w h m p) l .state)) (run (opened w h m p) l .state .dac .component) b
-        (latest (entryPut (run (opened w h m p) l .state .dac .address)) (opened w h m p) l none)) none
-    palette-read e =
-        shows-palette (run (opened w h m p) l) a b q hb e
-        ∙ ap
-        (λ (c : Option Colour).
-        pick (bit (b / 8) (a .enables)) (partBit (wide (run (opened w h m p) l .state)) (run (opened w h m p) l .state .dac .component) b c) none)
-        (entry-held (run (opened w h m p) l .state .dac .address) (good .formed .address))
+        (entryOf (run (opened w h m p) l .state .palette) (run (opened w h m p) l .state .dac .address))) none
+    palette-read e = shows-palette (run (opened w h m p) l) a b q hb e
 
     -- memory: the bit of the byte that exchanges with its lane
     pub memory-read : (i : ℕ) → placeOf (run (opened w h m p) l .state) a ≡ Window i
         → shows (step (run (opened w h m p) l) a .answer) b
         ≡ pick (bit (b / 8) (a .enables))
-        (some (bit (b % 8) (readLane (getD (run (opened w h m p) l .state .values) i 0) (run (opened w h m p) l .memory) (atByte (a .offset)) (b / 8))))
+        (some (bit (b % 8) (getD (run (opened w h m p) l .memory) (a .offset + laneAt (getD (run (opened w h m p) l .state .values) i 0) (b / 8)) 0)))
         none
     memory-read i e = shows-memory (run (opened w h m p) l) a b q hb good i e

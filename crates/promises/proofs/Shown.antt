@@ -1,6 +1,6 @@
 -- What an answer shows, bit by bit: the bit of what the access sees, in an enabled lane, and nothing elsewhere.
 -- From the definition of the answer and the laws of lanes; then by the place that the read leads to. Assumes nothing.
-use Prim.Native.Nat.{ℕ, _/_, _%_, _<_}
+use Prim.Native.Nat.{ℕ, _+_, _/_, _%_, _<_}
 use mathlib.Core.Bool.{Bool, true, false, _&&_}
 use mathlib.Core.Option.{Option, none, some}
 use mathlib.Core.Path.{_≡_, refl, ap, ap₂, _∙_}
@@ -21,7 +21,7 @@ use Rattle.chip.specs.declared.Seen.{Seen}
 use Rattle.chip.specs.declared.Place.{Place}
 use Rattle.chip.specs.declared.Place.the-variants.{Register, Address, PaletteData, Window, Blank}
 use Rattle.chip.specs.Palette.{entryOf}
-use Rattle.chip.specs.Aperture.{readLane, wordFrom}
+use Rattle.chip.specs.Aperture.{wordFrom}
 use Rattle.chip.specs.Units.{atByte}
 use Rattle.chip.specs.Place.{placeOf}
 use Rattle.chip.specs.Port.{seenPart, knownIn, wordIn, wide, portAt}
@@ -31,7 +31,9 @@ use Rattle.chip.specs.Trace.{World, step}
 use Rattle.chip.proofs.Refusals.{unrefused}
 use Rattle.chip.proofs.Lent.{lane-read}
 use Rattle.promises.specs.Good.{Good, statusAt}
+use Rattle.promises.specs.Frame.{laneAt}
 use Rattle.promises.specs.History.{seenBit, shows, partBit, spot, holds}
+use Rattle.promises.proofs.Pokes.{lane-told}
 
 -- ---- an accepted read
 
@@ -145,11 +147,12 @@ module _ (x : World) (a : Access) (b : ℕ) (q : Accepted x a) (hb : b < 32) whe
   -- memory: the bit of the byte that exchanges with the bit's lane
   pub shows-memory : Good x → (i : ℕ) → placeOf (x .state) a ≡ Window i
       → shows (step x a .answer) b
-      ≡ pick (bit (b / 8) (a .enables)) (some (bit (b % 8) (readLane (getD (x .state .values) i 0) (x .memory) (atByte (a .offset)) (b / 8)))) none
+      ≡ pick (bit (b / 8) (a .enables)) (some (bit (b % 8) (getD (x .memory) (a .offset + laneAt (getD (x .state .values) i 0) (b / 8)) 0))) none
   unfolding portAt seenBit
   shows-memory g i e =
       at-place (Window i) _ e
       (simp (full-bit b hb)
       (ap some
       (bit-lane b (wordFrom (getD (x .state .values) i 0) (x .memory) (atByte (a .offset)))
-      ∙ ap (bit (b % 8)) (lane-read (getD (x .state .values) i 0) (x .memory) (atByte (a .offset)) (b / 8) (g .bytes) (omega arith)))))
+      ∙ ap (bit (b % 8)) (lane-read (getD (x .state .values) i 0) (x .memory) (atByte (a .offset)) (b / 8) (g .bytes) (omega arith)
+      ∙ lane-told (getD (x .state .values) i 0) (x .memory) (a .offset) (b / 8)))))

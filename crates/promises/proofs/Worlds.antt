@@ -35,7 +35,8 @@ use Rattle.chip.proofs.Lent.{small, puts-small, stores-small}
 use Rattle.chip.proofs.Redraw.{redrawn-length}
 use Rattle.promises.specs.Good.{Formed, Good, AreBytes, statusAt, Openable}
 use Rattle.promises.specs.Reach.{reachAt}
-use Rattle.promises.specs.History.{accepted, patchAt}
+use Rattle.promises.specs.History.{accepted}
+use Rattle.promises.proofs.Patches.{patchAt}
 use Rattle.promises.proofs.Sane.{Sane, is-state}
 use Rattle.promises.proofs.Does.{putsFrom, writes, does}
 use Rattle.promises.proofs.Keeps.{Kept, patch-kept}

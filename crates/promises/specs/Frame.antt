@@ -1,71 +1,106 @@
--- What an access may alter, in the words of 01: a bit, an entry, a byte that it does not reach stays.
-use Prim.Native.Nat.{ℕ, _+_, _*_, _/_}
-use mathlib.Core.Bool.{Bool, true, false, not, _&&_, _||_}
-use mathlib.Core.List.{List, [], _∷_}
+-- What an access alters, in the words of 01: what it makes of a bit, an entry, a byte that it reaches; any other stays.
+use Prim.Native.Nat.{ℕ, _+_, _-_, _*_, _/_, _%_}
+use mathlib.Core.Bool.{Bool, not, false, _&&_, _||_}
 use mathlib.Core.Option.{Option, none, some}
 use mathlib.Core.Path.{_≡_}
-use lib.Dec.{eqb}
+use lib.Dec.{eqb, leb, ltb}
 use lib.ListN.{getD}
-use Rattle.bits.specs.Choose.{pick, someTo}
+use Rattle.bits.specs.Choose.{pick}
 use Rattle.bits.specs.Bit.{bit}
+use Rattle.bits.specs.Word.{laneByte}
 use Rattle.chip.specs.declared.State.{State}
 use Rattle.chip.specs.declared.Access.{Access}
-use Rattle.chip.specs.declared.Bytes.{Bytes}
+use Rattle.chip.specs.declared.Dac.{Dac}
+use Rattle.chip.specs.declared.Colour.{Colour}
 use Rattle.chip.specs.Bank.{bankRow, subsystem}
-use Rattle.chip.specs.Register.{mayChange}
-use Rattle.chip.specs.Dac.{bothStaged}
-use Rattle.chip.specs.Units.{atByte}
-use Rattle.chip.specs.Aperture.{reach}
+use Rattle.chip.specs.Palette.{keptAs}
 use Rattle.chip.specs.Place.{placeOf}
+use Rattle.chip.specs.Port.{wide}
 use Rattle.chip.specs.Refusal.{isWrite}
+use Rattle.chip.specs.Trace.{World}
 use Rattle.promises.specs.Reach.{reachAt}
-use Rattle.promises.specs.History.{Spot}
+use Rattle.promises.specs.History.{accepted, isData, Spot}
 
--- bit b of register r: of the subsystem numbers the half's two lanes, while it is not fixed; of the others the bit's lane, and a bit that a write may change
-unfoldable pub bitReach : State → Access → ℕ → ℕ → Bool
-bitReach s a r b =
+-- ---- a register's bit
+
+-- a write to register r moves its bit b: of the subsystem numbers with the half's two lanes, while it is not fixed; of the others with the bit's lane, if the
+-- bit is writable, or cleared by one and the word has a one there
+unfoldable pub bitMoves : State → Access → ℕ → ℕ → Bool
+bitMoves s a r b =
     pick (eqb r subsystem)
     (not (bit (b / 16) (s .once)) && (bit (2 * (b / 16)) (a .enables) && bit (2 * (b / 16) + 1) (a .enables)))
-    (bit (b / 8) (a .enables) && bit b (mayChange (bankRow r)))
+    (bit (b / 8) (a .enables) && (bit b (bankRow r .writable) || (bit b (bankRow r .clears) && bit b (a .word))))
 
--- a write to the register in a row, if it is one
-unfoldable pub rowReach : State → Access → Option ℕ → Spot → Bool
-rowReach s a none q = false
-rowReach s a (some i) q = eqb i (q .row) && bitReach s a (q .row) (q .b)
+-- it is row r
+abbrev pub isRow : Option ℕ → ℕ → Bool
+isRow none r = false
+isRow (some i) r = eqb i r
 
--- a write that may alter the bit
-unfoldable pub reaches : State → Access → Spot → Bool
-reaches s a q = isWrite a && rowReach s a (reachAt (placeOf s a) .row) q
+-- an accepted write to the register in row r: region 0's, the header's, or the one that indexed data leads to
+unfoldable pub writesRow : World → Access → ℕ → Bool
+writesRow x a r = (accepted x a && isWrite a) && isRow (reachAt (placeOf (x .state) a) .row) r
+
+-- .. that moves the bit
+unfoldable pub moves : World → Access → Spot → Bool
+moves x a q = writesRow x a (q .row) && bitMoves (x .state) a (q .row) (q .b)
+
+-- .. and what it makes of it: the word's bit, and zero where a one clears
+unfoldable pub broughtBit : Spot → Access → Bool
+broughtBit q a = bit (q .b) (a .word) && not (bit (q .b) (bankRow (q .row) .clears))
+
+-- .. that fixes a subsystem number, 0 the vendor's and 1 the ID's: with both of its lanes
+unfoldable pub fixes : World → Access → ℕ → Bool
+fixes x a n = writesRow x a subsystem && (bit (2 * n) (a .enables) && bit (2 * n + 1) (a .enables))
 
 -- the stored bits themselves: the value's, and whether it is known
 pub record SameBit (s n : State) (q : Spot) : Type 0 where
   pub value : bit (q .b) (getD (n .values) (q .row) 0) ≡ bit (q .b) (getD (s .values) (q .row) 0)
   pub known : bit (q .b) (getD (n .knowns) (q .row) 0) ≡ bit (q .b) (getD (s .knowns) (q .row) 0)
 
--- an access to palette data or, as a write, to the address, with lane 0: what may alter the address, the component and the stage
-unfoldable pub turns : State → Access → Bool
-turns s a = ((isWrite a && reachAt (placeOf s a) .aims) || reachAt (placeOf s a) .paints) && bit 0 (a .enables)
+-- ---- the palette's address, component and staged bytes
 
--- a write of palette data with lane 0, the third of an entry with red and green staged, at the entry's address: what may alter the entry
-unfoldable pub completes : State → Access → ℕ → Bool
-completes s a e =
-    ((isWrite a && reachAt (placeOf s a) .paints) && bit 0 (a .enables))
-    && ((eqb (s .dac .component) 2 && bothStaged (s .dac)) && eqb (s .dac .address) e)
+-- after an address was set to v
+pub record Aimed (d : Dac) (v : ℕ) : Type 0 where
+  pub address : d .address ≡ v
+  pub known : d .known ≡ 0xFF
+  pub component : d .component ≡ 0
+  pub staged : d .staged ≡ 0
 
--- byte k is one of some
-abbrev pub among : ℕ → List Bytes → Bool
-among k [] = false
-among k (b ∷ l) = eqb (b .0) k || among k l
+-- after a palette data access: the component goes up by one; after 2 it becomes 0 and the address goes up by one, 255 to 0
+pub record Advanced (d n : Dac) : Type 0 where
+  pub component : n .component ≡ (d .component + 1) % 3
+  pub address : n .address ≡ (d .address + (d .component + 1) / 3) % 256
+  pub known : n .known ≡ d .known
 
--- an access through the aperture whose control register holds c writes byte k by lane j: the lane is enabled and reaches it
-unfoldable pub laneReach : ℕ → Access → ℕ → ℕ → Bool
-laneReach c a k j = bit j (a .enables) && among k (reach c true [] (atByte (a .offset)) j)
+-- ---- a palette entry
 
--- .. by any of its lanes, if it is an aperture
-unfoldable pub windowReach : State → Access → Option ℕ → ℕ → Bool
-windowReach s a none k = false
-windowReach s a (some i) k = someTo (laneReach (getD (s .values) i 0) a k) 4
+-- an accepted write of palette data with lane 0, the third of an entry with red and green staged, at the entry's address ..
+unfoldable pub completes : World → Access → ℕ → Bool
+completes x a e =
+    (isWrite a && isData x a) && ((eqb (x .state .dac .component) 2 && eqb (x .state .dac .staged) 2) && eqb (x .state .dac .address) e)
 
--- a write through an aperture that reaches byte k: what may alter the byte
-unfoldable pub pokes : State → Access → ℕ → Bool
-pokes s a k = isWrite a && windowReach s a (reachAt (placeOf s a) .window) k
+-- .. and the colour that it makes: the staged bytes, and its own as the width of that moment has it
+unfoldable pub madeColour : State → Access → Colour
+madeColour s a = record { red = s .dac .red; green = s .dac .green; blue = keptAs (wide s) (laneByte 0 (a .word)) }
+
+-- ---- a memory byte
+
+-- the lane that memory byte o + i exchanges with, by the swap code in bits 0 and 1 of the aperture's control register: i, 3 − i where it is 1, (i + 2) mod 4 where
+-- it is 2. The rule is its own inverse: lane j exchanges with byte o + laneAt j
+unfoldable pub laneAt : ℕ → ℕ → ℕ
+laneAt control i = pick (eqb (control % 4) 1) (3 - i) (pick (eqb (control % 4) 2) ((i + 2) % 4) i)
+
+-- what a write by that rule stores in byte k, if it is one of the four from its offset on: its lane's byte, where that lane is enabled
+unfoldable pub lanePut : ℕ → Access → ℕ → Option ℕ
+lanePut control a k =
+    pick (leb (a .offset) k && (ltb k (a .offset + 4) && bit (laneAt control (k - a .offset)) (a .enables)))
+    (some (laneByte (laneAt control (k - a .offset)) (a .word))) none
+
+-- .. through the aperture whose control register is in a row, if it is one
+unfoldable pub windowPut : State → Access → Option ℕ → ℕ → Option ℕ
+windowPut s a none k = none
+windowPut s a (some i) k = lanePut (getD (s .values) i 0) a k
+
+-- what an access stores in byte k, if it is an accepted write that does
+unfoldable pub bytePut : ℕ → World → Access → Option ℕ
+bytePut k x a = pick (accepted x a && isWrite a) (windowPut (x .state) a (reachAt (placeOf (x .state) a) .window) k) none

@@ -14,24 +14,15 @@ use Rattle.chip.specs.declared.Answer.{Answer}
 use Rattle.chip.specs.declared.Colour.{Colour}
 use Rattle.chip.specs.Bank.{bankCount, bankRow}
 use Rattle.chip.specs.Palette.{shownAs, partOf}
-use Rattle.chip.specs.Dac.{Paint}
-use Rattle.chip.specs.Aperture.{Put}
-use Rattle.chip.specs.Patch.{Store, Patch, nothingStored}
 use Rattle.chip.specs.Place.{placeOf}
 use Rattle.chip.specs.Refusal.{isWrite}
-use Rattle.chip.specs.Step.{patchOf}
 use Rattle.chip.specs.Trace.{World, after}
 use Rattle.promises.specs.Good.{statusAt}
-use Rattle.promises.specs.Along.{laterOf}
 use Rattle.promises.specs.Reach.{reachAt}
 
 -- access a, made at x, is not refused
 unfoldable pub accepted : World → Access → Bool
 accepted x a = eqb (statusAt x a) 0
-
--- what it stores: by its rule where it is accepted, and nothing where it is refused
-unfoldable pub patchAt : World → Access → Patch
-patchAt x a = pick (accepted x a) (patchOf (x .state) a) nothingStored
 
 -- a bit as it is seen: its value where it is known, and nothing where it is not
 unfoldable pub seenBit : Bool → Bool → Option Bool
@@ -68,25 +59,6 @@ holds s q = seenBit (bit (q .b) (getD (s .knowns) (q .row) 0)) (bit (q .b) (getD
 -- what the reset tables state
 unfoldable pub stated : Spot → Option Bool
 stated q = seenBit (bit (q .b) (bankRow (q .row) .known)) (bit (q .b) (bankRow (q .row) .reset))
-
--- a store of some bits of a word puts bit b of the word into row r, if it is that row and one of those bits
-unfoldable pub putsBit : Spot → Option Store → Option (Option Bool)
-putsBit q none = none
-putsBit q (some x) = pick (eqb (x .row) (q .row) && bit (q .b) (x .bits)) (some (some (bit (q .b) (x .word)))) none
-
--- ---- memory bytes
-
--- the last of a list of stores into byte k
-abbrev pub lastPoke : ℕ → List Put → Option ℕ
-lastPoke k [] = none
-lastPoke k (x ∷ l) = laterOf (lastPoke k l) (pick (eqb (x .at .0) k) (some (x .byte)) none)
-
--- ---- palette entries
-
--- entry e takes the colour that it is painted with
-unfoldable pub putsEntry : ℕ → Option Paint → Option (Option Colour)
-putsEntry e none = none
-putsEntry e (some x) = pick (eqb (x .entry) e) (some (some (x .colour))) none
 
 -- ---- the palette's address
 

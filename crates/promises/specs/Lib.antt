@@ -4,5 +4,7 @@ pub mod Reach
 pub mod History
 pub mod Frame
 pub mod View
+pub mod Loads
 pub mod Origin
-pub mod Soundness
+pub mod Places
+pub mod Refusals

@@ -16,14 +16,15 @@ use Rattle.chip.specs.Picture.{diffs, drawn}
 use Rattle.chip.specs.Step.{answered}
 use Rattle.chip.specs.Trace.{World, opened, run}
 use Rattle.chip.proofs.Lines.{First}
 use Rattle.promises.specs.Good.{Openable}
 use Rattle.promises.specs.History.{Spot, Real, holds}
 use Rattle.promises.specs.Origin.{BitStored, BitStated}
-use Rattle.promises.proofs.Calls.{Called, OpenCalled, Calls, call-answers, call-leaves, open-answers, open-leaves, answers, calls-leave, calls-answer}
+use Rattle.calls.specs.Calls.{Called, OpenCalled, Calls, answers}
+use Rattle.calls.proofs.Calls.{call-answers, call-leaves, open-answers, open-leaves, calls-leave, calls-answer}
 use Rattle.promises.proofs.Promise1Refusals.{access-refused, refused-alters-nothing, opening-refused}
 use Rattle.promises.proofs.Promise3Only.{zero-where-unknown}
 use Rattle.promises.proofs.Promise4Origins.{bit-origin}
 use Rattle.promises.proofs.Promise5Picture.{picture-right, count-right}
 
 -- ---- demand 1: any call at all
 

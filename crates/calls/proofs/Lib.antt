@@ -1,2 +1,3 @@
 pub mod Calls
 pub mod Promise8Code
+pub mod Exist

@@ -1,6 +1,6 @@
 -- The three demands on the code: what follows from the contracts of `open` and `access` alone, for any call and for any sequence of calls in which
 -- nobody else alters state, memory or picture. A run of calls is a run of the definitions (Calls), of which the other promises speak. Assumes nothing.
-use Prim.Native.Nat.{ℕ}
+use Prim.Native.Nat.{ℕ, _≤_}
 use mathlib.Core.Bool.{Bool, false}
 use mathlib.Core.List.{List}
 use mathlib.Core.Logic.{_↔_, _⊎_}
@@ -11,17 +11,16 @@ use Rattle.bits.specs.Bit.{bit}
 use Rattle.chip.specs.declared.Access.{Access}
 use Rattle.chip.specs.declared.Answer.{Answer}
 use Rattle.chip.specs.declared.Opened.{Opened}
-use Rattle.chip.specs.Refusal.{accessLines, openingLines}
 use Rattle.chip.specs.Picture.{diffs, drawn}
 use Rattle.chip.specs.Step.{answered}
 use Rattle.chip.specs.Trace.{World, opened, run}
-use Rattle.chip.proofs.Lines.{First}
 use Rattle.promises.specs.Good.{Openable}
 use Rattle.promises.specs.History.{Spot, Real, holds}
+use Rattle.promises.specs.Refusals.{Words, Passes, Fails, OpeningHas}
 use Rattle.promises.specs.Origin.{BitStored, BitStated}
 use Rattle.calls.specs.Calls.{Called, OpenCalled, Calls, answers}
 use Rattle.calls.proofs.Calls.{call-answers, call-leaves, open-answers, open-leaves, calls-leave, calls-answer}
-use Rattle.promises.proofs.Promise1Refusals.{access-refused, refused-alters-nothing, opening-refused}
+use Rattle.promises.proofs.Promise1Refusals.{access-refused, access-done, status-among, refused-alters-nothing, opening-refused}
 use Rattle.promises.proofs.Promise3Only.{zero-where-unknown}
 use Rattle.promises.proofs.Promise4Origins.{bit-origin}
 use Rattle.promises.proofs.Promise5Picture.{picture-right, count-right}
@@ -29,11 +28,16 @@ use Rattle.promises.proofs.Promise5Picture.{picture-right, count-right}
 -- ---- demand 1: any call at all
 
 module _ (x : World) (a : Access) (r : Answer) (y : World) (c : Called x a r y) where
-  -- it is refused as n exactly where line n of 01's table holds and no earlier one does
-  pub call-refused : (n : ℕ) → (n ≡ 0 → ⊥) → (r .status ≡ n) ↔ First (accessLines (x .state) (length (x .memory)) (length (x .picture)) a) n
-  call-refused n d =
-      subst (λ (q : Answer). (q .status ≡ n) ↔ First (accessLines (x .state) (length (x .memory)) (length (x .picture)) a) n) (sym (call-answers x a r y c))
-      (access-refused x a n d)
+  -- it is refused as n exactly where it does not pass line n of 01's table and passes every line before ..
+  pub call-refused : Words (x .state) → (n : ℕ) → 1 ≤ n → n ≤ 7 → (r .status ≡ n) ↔ Fails x a n
+  call-refused k n u v = subst (λ (q : Answer). (q .status ≡ n) ↔ Fails x a n) (sym (call-answers x a r y c)) (access-refused x a k n u v)
+
+  -- .. and done exactly where it passes every line; there is no other status
+  pub call-done : Words (x .state) → (r .status ≡ 0) ↔ ((n : ℕ) → 1 ≤ n → n ≤ 7 → Passes x a n)
+  call-done k = subst (λ (q : Answer). (q .status ≡ 0) ↔ ((n : ℕ) → 1 ≤ n → n ≤ 7 → Passes x a n)) (sym (call-answers x a r y c)) (access-done x a k)
+
+  pub call-status-among : r .status ≤ 7
+  call-status-among = subst (λ (q : Answer). q .status ≤ 7) (sym (call-answers x a r y c)) (status-among x a)
 
   -- then it returns zero data, and state, memory and picture are as they were
   pub call-refused-alters-nothing : (r .status ≡ 0 → ⊥)
@@ -64,10 +68,8 @@ call-fixed x a r r′ y y′ c d =
     (call-answers x a r y c ∙ sym (call-answers x a r′ y′ d), call-leaves x a r y c ∙ sym (call-leaves x a r′ y′ d))
 
 -- and an opening
-pub open-refused : (w h : ℕ) (m p : List ℕ) (r : Opened) (y : World) → OpenCalled w h m p r y → (n : ℕ) → (n ≡ 0 → ⊥)
-    → (r .status ≡ n) ↔ First (openingLines w h (length m) (length p)) n
-open-refused w h m p r y c n d =
-    subst (λ (q : Opened). (q .status ≡ n) ↔ First (openingLines w h (length m) (length p)) n) (sym (open-answers w h m p r y c)) (opening-refused w h m p n d)
+pub open-refused : (w h : ℕ) (m p : List ℕ) (r : Opened) (y : World) → OpenCalled w h m p r y → OpeningHas w h (length m) (length p) (r .status)
+open-refused w h m p r y c = subst (λ (q : Opened). OpeningHas w h (length m) (length p) (q .status)) (sym (open-answers w h m p r y c)) (opening-refused w h m p)
 
 -- ---- any sequence of calls after an opening
 

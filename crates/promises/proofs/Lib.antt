@@ -6,6 +6,7 @@ pub mod Dacs
 pub mod Does
 pub mod Sites
 pub mod Places
+pub mod Passed
 pub mod Keeps
 pub mod Worlds
 pub mod Along
@@ -22,8 +23,8 @@ pub mod Answers
 pub mod Depends
 pub mod Worked
 pub mod Origins
-pub mod Promise1Refusals
 pub mod Promise1State
+pub mod Promise1Refusals
 pub mod Promise2States
 pub mod Promise3Only
 pub mod Promise4Origins

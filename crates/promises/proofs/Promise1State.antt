@@ -22,7 +22,7 @@ use Rattle.chip.specs.Palette.{entryCount, entryOk, paletteOk}
 use Rattle.chip.specs.Sound.{panelOk, memoryOk, componentOk, addressOk, onceOk, rowOk, bankSound, isState}
 use Rattle.chip.proofs.Faults.{fault-parts, fault-none, faults-at, faults-none}
 use Rattle.chip.proofs.Tables.{bank-rule}
-use Rattle.promises.specs.Refusals.{SoundBit, freeBit, SoundEntry, IsState}
+use Rattle.promises.specs.Refusals.{Panel, Memory, SoundBit, freeBit, SoundEntry, IsState, Words}
 use Rattle.promises.proofs.Sane.{sane, is-state}
 use Rattle.promises.proofs.Moved.{half-bit, half-lt}
 
@@ -133,51 +133,75 @@ sound-entry p e f = go (f .flag)
     go (inl z) = simp (eq-eqb _ 0 z, eq-eqb _ 0 (f .red z), eq-eqb _ 0 (f .green z), eq-eqb _ 0 (f .blue z))
     go (inr z) = rw z
 
+-- ---- the limits
+
+pub panel-of : (w h : ℕ) → panelOk w h ≡ true → Panel w h
+unfolding panelOk
+panel-of w h e =
+    let p = and-first (leb 1 w && leb w 1024) _ e in
+    let q = and-second (leb 1 w && leb w 1024) _ e in
+    record {
+      wide = (leb-true 1 w (and-first (leb 1 w) _ p), leb-true w 1024 (and-second (leb 1 w) _ p));
+      high = (leb-true 1 h (and-first (leb 1 h) _ q), leb-true h 1024 (and-second (leb 1 h) _ q));
+    }
+
+pub of-panel : (w h : ℕ) → Panel w h → panelOk w h ≡ true
+unfolding panelOk
+of-panel w h f = simp (le-leb 1 w (f .wide .0), le-leb w 1024 (f .wide .1), le-leb 1 h (f .high .0), le-leb h 1024 (f .high .1))
+
+pub memory-of : (n : ℕ) → memoryOk n ≡ true → Memory n
+unfolding memoryOk
+memory-of n e =
+    let m = and-second (eqb (n % 8) 0) _ e in
+    record {
+      eights = eqb-true (n % 8) 0 (and-first (eqb (n % 8) 0) _ e);
+      bytes = (leb-true 8 n (and-first (leb 8 n) _ m), leb-true n 8388608 (and-second (leb 8 n) _ m));
+    }
+
+pub of-memory : (n : ℕ) → Memory n → memoryOk n ≡ true
+unfolding memoryOk
+of-memory n f = simp (eq-eqb (n % 8) 0 (f .eights), le-leb 8 n (f .bytes .0), le-leb n 8388608 (f .bytes .1))
+
 -- ---- the whole
 
-module _ (s : State) (hk : (i : ℕ) → getD (s .knowns) i 0 < 2 ^ 32) (hd : s .dac .known < 2 ^ 32) where
+module _ (s : State) (h : Words s) where
   pub is-sound : isState s ≡ true → IsState s
-  unfolding panelOk memoryOk componentOk addressOk onceOk bankSound rowOk paletteOk
+  unfolding componentOk addressOk onceOk bankSound rowOk paletteOk
   is-sound e =
       let f = sane s e in
-      let w = and-first (leb 1 (s .width) && leb (s .width) 1024) _ (f .panel) in
-      let h = and-second (leb 1 (s .width) && leb (s .width) 1024) _ (f .panel) in
-      let m = and-second (eqb (s .fitted % 8) 0) _ (f .memory) in
       let ho : s .once ≤ 3 = leb-true (s .once) 3 (f .once) in
       record {
-        wide = (leb-true 1 _ (and-first (leb 1 (s .width)) _ w), leb-true _ 1024 (and-second (leb 1 (s .width)) _ w));
-        high = (leb-true 1 _ (and-first (leb 1 (s .height)) _ h), leb-true _ 1024 (and-second (leb 1 (s .height)) _ h));
-        eights = eqb-true _ 0 (and-first (eqb (s .fitted % 8) 0) _ (f .memory));
-        fitted = (leb-true 8 _ (and-first (leb 8 (s .fitted)) _ m), leb-true _ 8388608 (and-second (leb 8 (s .fitted)) _ m));
+        panel = panel-of (s .width) (s .height) (f .panel);
+        fitted = memory-of (s .fitted) (f .memory);
         component = leb-true _ 2 (f .component);
         registers = λ i b hi hb.
             rw (← exempt-bit (s .once) i b (omega arith) hb)
-            (sound-of (getD (s .values) i 0) (getD (s .knowns) i 0) (exempt (s .once) i) (bankRow i .reset) (bankRow i .known) (hk i) (exempt-lt (s .once) i (omega arith) hi)
+            (sound-of (getD (s .values) i 0) (getD (s .knowns) i 0) (exempt (s .once) i) (bankRow i .reset) (bankRow i .known) (h .knowns i) (exempt-lt (s .once) i (omega arith) hi)
             (eqb-true _ 0 (every-at (rowOk (s .once) (s .values) (s .knowns)) bankCount i (f .bank) hi)) b hb);
         address = λ b hb.
             subst (λ (z : Bool). SoundBit (bit b (s .dac .address)) (bit b (s .dac .known)) (bit b 0xFF) z z) (bit-of-zero b)
-            (sound-of (s .dac .address) (s .dac .known) 0xFF 0 0 hd (omega arith) (eqb-true _ 0 (f .address)) b hb);
+            (sound-of (s .dac .address) (s .dac .known) 0xFF 0 0 (h .address) (omega arith) (eqb-true _ 0 (f .address)) b hb);
         flags = ho;
         palette = λ i hi. entry-sound (s .palette) i (every-at (entryOk (s .palette)) entryCount i (f .palette) hi);
       }
 
   pub sound-is : IsState s → isState s ≡ true
-  unfolding panelOk memoryOk componentOk addressOk onceOk bankSound rowOk paletteOk
+  unfolding componentOk addressOk onceOk bankSound rowOk paletteOk
   sound-is f =
       let ho = f .flags in
       is-state s (record {
-        panel = simp (le-leb 1 _ (f .wide .0), le-leb _ 1024 (f .wide .1), le-leb 1 _ (f .high .0), le-leb _ 1024 (f .high .1));
-        memory = simp (eq-eqb _ 0 (f .eights), le-leb 8 _ (f .fitted .0), le-leb _ 8388608 (f .fitted .1));
+        panel = of-panel (s .width) (s .height) (f .panel);
+        memory = of-memory (s .fitted) (f .fitted);
         component = le-leb _ 2 (f .component);
         address =
             eq-eqb _ 0
-            (of-sound (s .dac .address) (s .dac .known) 0xFF 0 0 hd (omega arith) (λ b hb.
+            (of-sound (s .dac .address) (s .dac .known) 0xFF 0 0 (h .address) (omega arith) (λ b hb.
             subst (λ (z : Bool). SoundBit (bit b (s .dac .address)) (bit b (s .dac .known)) (bit b 0xFF) z z) (sym (bit-of-zero b)) (f .address b hb)));
         once = le-leb _ 3 ho;
         bank =
             every-all _ bankCount (λ i hi.
             eq-eqb _ 0
-            (of-sound (getD (s .values) i 0) (getD (s .knowns) i 0) (exempt (s .once) i) (bankRow i .reset) (bankRow i .known) (hk i) (exempt-lt (s .once) i (omega arith) hi)
+            (of-sound (getD (s .values) i 0) (getD (s .knowns) i 0) (exempt (s .once) i) (bankRow i .reset) (bankRow i .known) (h .knowns i) (exempt-lt (s .once) i (omega arith) hi)
             (λ b hb. rw (exempt-bit (s .once) i b (omega arith) hb) (f .registers i b hi hb))));
         palette = every-all _ entryCount (λ i hi. sound-entry (s .palette) i (f .palette i hi));
       })

@@ -1,80 +1,172 @@
 -- The three demands on the code: what follows from the contracts of `open` and `access` alone, for any call and for any sequence of calls in which
 -- nobody else alters state, memory or picture. A run of calls is a run of the definitions (Calls), of which the other promises speak. Assumes nothing.
-use Prim.Native.Nat.{ℕ, _≤_}
-use mathlib.Core.Bool.{Bool, false}
+use Prim.Native.Nat.{ℕ, _*_, _≤_, _<_}
+use mathlib.Core.Bool.{Bool, true, false}
 use mathlib.Core.List.{List}
 use mathlib.Core.Logic.{_↔_, _⊎_}
 use mathlib.Core.Option.{some}
 use mathlib.Core.Path.{_≡_, sym, ap, _∙_, subst}
-use lib.ListN.{length}
+use lib.ListN.{getD, length, replicate}
 use Rattle.bits.specs.Bit.{bit}
 use Rattle.chip.specs.declared.Access.{Access}
 use Rattle.chip.specs.declared.Answer.{Answer}
 use Rattle.chip.specs.declared.Opened.{Opened}
-use Rattle.chip.specs.Picture.{diffs, drawn}
-use Rattle.chip.specs.Step.{answered}
-use Rattle.chip.specs.Trace.{World, opened, run}
-use Rattle.promises.specs.Good.{Openable}
-use Rattle.promises.specs.History.{Spot, Real, holds}
+use Rattle.chip.specs.declared.Colour.{Colour}
+use Rattle.chip.specs.declared.Place.the-variants.{Register, Window}
+use Rattle.chip.specs.Palette.{entryCount, entryOf}
+use Rattle.chip.specs.State.{resetState}
+use Rattle.chip.specs.Sound.{isState}
+use Rattle.chip.specs.Place.{placeOf}
+use Rattle.chip.specs.Picture.{diffs, drawn, wordOf}
+use Rattle.chip.specs.Step.{answered, openOf}
+use Rattle.chip.specs.Trace.{World, opened, step, after, run}
+use Rattle.promises.specs.Good.{AreBytes, Good, Openable}
+use Rattle.promises.specs.Places.{Leads}
+use Rattle.promises.specs.History.{shows, Spot, Real, holds}
+use Rattle.promises.specs.Frame.{moves, broughtBit, SameBit}
 use Rattle.promises.specs.Refusals.{Words, Passes, Fails, OpeningHas}
-use Rattle.promises.specs.Origin.{BitStored, BitStated}
+use Rattle.promises.specs.Origin.{BitStored, BitStated, ByteStored, ByteLent}
+use Rattle.promises.specs.Loads.{Loaded}
+use Rattle.promises.specs.Told.{Told, ShownBy}
+use Rattle.promises.specs.Dots.{Ruled}
+use Rattle.promises.specs.View.{SameWindow, command, ButRow}
+use Rattle.promises.proofs.Promise1Refusals.{access-status, access-refused, access-done, status-among, refused-alters-nothing, opening-refused, refused-opening}
+use Rattle.promises.proofs.Promise2States.{opening-gives, access-good, always-state}
+use Rattle.promises.proofs.Promise3Only.{bits-move, bits-stay, without-lane-0, zero-where-unknown}
+use Rattle.promises.proofs.Promise4Origins.{bit-exactly, byte-exactly, entry-exactly}
+use Rattle.promises.proofs.Promise4Known.{known-exactly}
+use Rattle.promises.proofs.Promise5Picture.{picture-right, count-right, lengths-stay, dot-ruled}
+use Rattle.promises.proofs.Promise6Altered.{other-dots-stay, differing-dots-change}
+use Rattle.promises.proofs.Promise7Depends.{aperture-depends, command-gates-nothing, command-alters-nothing}
 use Rattle.calls.specs.Calls.{Called, OpenCalled, Calls, answers}
 use Rattle.calls.proofs.Calls.{call-answers, call-leaves, open-answers, open-leaves, calls-leave, calls-answer}
-use Rattle.promises.proofs.Promise1Refusals.{access-refused, access-done, status-among, refused-alters-nothing, opening-refused}
-use Rattle.promises.proofs.Promise3Only.{zero-where-unknown}
-use Rattle.promises.proofs.Promise4Origins.{bit-origin}
-use Rattle.promises.proofs.Promise5Picture.{picture-right, count-right}
 
--- ---- demand 1: any call at all
+-- ---- any call at all, on any world
 
 module _ (x : World) (a : Access) (r : Answer) (y : World) (c : Called x a r y) where
-  -- it is refused as n exactly where it does not pass line n of 01's table and passes every line before ..
+  -- what holds of the definition's answer and of what it leaves, holds of the call
+  pub of-call : (P : Answer → World → Type 0) → P (step x a .answer) (after x a) → P r y
+  of-call P q = subst (λ (z : World). P r z) (sym (call-leaves x a r y c)) (subst (λ (z : Answer). P z (after x a)) (sym (call-answers x a r y c)) q)
+
+  -- demand 1: it is refused as n exactly where it does not pass line n of 01's table and passes every line before ..
   pub call-refused : Words (x .state) → (n : ℕ) → 1 ≤ n → n ≤ 7 → (r .status ≡ n) ↔ Fails x a n
-  call-refused k n u v = subst (λ (q : Answer). (q .status ≡ n) ↔ Fails x a n) (sym (call-answers x a r y c)) (access-refused x a k n u v)
+  call-refused k n u v = of-call (λ (q : Answer) (z : World). (q .status ≡ n) ↔ Fails x a n) (access-refused x a k n u v)
 
   -- .. and done exactly where it passes every line; there is no other status
   pub call-done : Words (x .state) → (r .status ≡ 0) ↔ ((n : ℕ) → 1 ≤ n → n ≤ 7 → Passes x a n)
-  call-done k = subst (λ (q : Answer). (q .status ≡ 0) ↔ ((n : ℕ) → 1 ≤ n → n ≤ 7 → Passes x a n)) (sym (call-answers x a r y c)) (access-done x a k)
+  call-done k = of-call (λ (q : Answer) (z : World). (q .status ≡ 0) ↔ ((n : ℕ) → 1 ≤ n → n ≤ 7 → Passes x a n)) (access-done x a k)
 
   pub call-status-among : r .status ≤ 7
-  call-status-among = subst (λ (q : Answer). q .status ≤ 7) (sym (call-answers x a r y c)) (status-among x a)
+  call-status-among = of-call (λ (q : Answer) (z : World). q .status ≤ 7) (status-among x a)
 
-  -- then it returns zero data, and state, memory and picture are as they were
+  -- a refused one returns zero data, and state, memory and picture are as they were
   pub call-refused-alters-nothing : (r .status ≡ 0 → ⊥)
       → (r ≡ answered (r .status) 0 0 0 (x .state)) × (y .state ≡ x .state) × (y .memory ≡ x .memory) × (y .picture ≡ x .picture)
-  call-refused-alters-nothing d =
-      let e = call-answers x a r y c in
-      let f = call-leaves x a r y c in
-      let z = refused-alters-nothing x a (λ q. d (ap (λ (t : Answer). t .status) e ∙ q)) in (
-        e ∙ z .0 ∙ ap (λ (t : Answer). answered (t .status) 0 0 0 (x .state)) (sym e),
-        ap (λ (w : World). w .state) f ∙ ap (λ (t : Answer). t .state) (z .0),
-        ap (λ (w : World). w .memory) f ∙ z .1,
-        ap (λ (w : World). w .picture) f ∙ z .2,
-      )
+  call-refused-alters-nothing =
+      of-call
+      (λ (q : Answer) (z : World).
+      (q .status ≡ 0 → ⊥) → (q ≡ answered (q .status) 0 0 0 (x .state)) × (z .state ≡ x .state) × (z .memory ≡ x .memory) × (z .picture ≡ x .picture))
+      (λ d. let z = refused-alters-nothing x a d in (z .0, ap (λ (t : Answer). t .state) (z .0), z .1, z .2))
 
-  -- demand 2, bit by bit: a bit is zero wherever it is not known
+  -- demand 2: a state stays one, with buffers of its sizes ..
+  pub call-good : Good x → Good y
+  call-good g = of-call (λ (q : Answer) (z : World). Good z) (access-good x a g)
+
+  -- .. what it moves takes the word's bit, and every other stays ..
+  pub call-bits-move : Good x → (q : Spot) → Real q → moves x a q ≡ true → holds (y .state) q ≡ some (broughtBit q a)
+  call-bits-move g q k e = of-call (λ (t : Answer) (z : World). holds (z .state) q ≡ some (broughtBit q a)) (bits-move x a g q k e)
+
+  pub call-bits-stay : Good x → (q : Spot) → Real q → moves x a q ≡ false → SameBit (x .state) (y .state) q
+  call-bits-stay g q k e = of-call (λ (t : Answer) (z : World). SameBit (x .state) (z .state) q) (bits-stay x a g q k e)
+
+  -- .. without lane 0 an accepted RAMDAC access does nothing and shows nothing ..
+  pub call-without-lane-0 : Good x → Words (x .state) → a .target ≡ 0 → 0x4000 ≤ a .offset → r .status ≡ 0 → bit 0 (a .enables) ≡ false
+      → (y .state ≡ x .state) × (y .memory ≡ x .memory) × (y .picture ≡ x .picture) × (r .word ≡ 0) × (r .known ≡ 0)
+  call-without-lane-0 g k t f d l =
+      let z = without-lane-0 x a g k t f (sym (access-status x a) ∙ ap (λ (q : Answer). q .status) (sym (call-answers x a r y c)) ∙ d) l in
+      of-call
+      (λ (q : Answer) (w : World). (w .state ≡ x .state) × (w .memory ≡ x .memory) × (w .picture ≡ x .picture) × (q .word ≡ 0) × (q .known ≡ 0))
+      (z .state, z .memory, z .picture, z .word, z .known)
+
+  -- .. and a bit is zero wherever it is not known
   pub call-zero-where-unknown : (b : ℕ) → bit b (r .known) ≡ false → bit b (r .word) ≡ false
-  call-zero-where-unknown b =
-      subst (λ (q : Answer). bit b (q .known) ≡ false → bit b (q .word) ≡ false) (sym (call-answers x a r y c)) (zero-where-unknown x a b)
+  call-zero-where-unknown b = of-call (λ (q : Answer) (z : World). bit b (q .known) ≡ false → bit b (q .word) ≡ false) (zero-where-unknown x a b)
 
-  -- demand 3: the changed count is the number of dots that differ from before
+  -- demand 3: the changed count is the number of dots that differ from before; the buffers keep their lengths
   pub call-counts : r .changed ≡ diffs (x .picture) (y .picture)
-  call-counts =
-      ap (λ (q : Answer). q .changed) (call-answers x a r y c) ∙ count-right x a ∙ ap (λ (w : World). diffs (x .picture) (w .picture)) (sym (call-leaves x a r y c))
+  call-counts = of-call (λ (q : Answer) (z : World). q .changed ≡ diffs (x .picture) (z .picture)) (count-right x a)
+
+  pub call-lengths : (length (y .memory) ≡ length (x .memory)) × (length (y .picture) ≡ length (x .picture))
+  call-lengths = of-call (λ (q : Answer) (z : World). (length (z .memory) ≡ length (x .memory)) × (length (z .picture) ≡ length (x .picture))) (lengths-stay x a)
+
+  -- a picture that somebody else altered: a dot whose word by the rules is the same before and after stays as lent, one whose word differs takes the new word
+  pub call-dots-stay : (i : ℕ) → i < length (x .picture) → wordOf (x .state) (x .memory) i ≡ wordOf (y .state) (y .memory) i → getD (y .picture) i 0 ≡ getD (x .picture) i 0
+  call-dots-stay i h =
+      of-call (λ (q : Answer) (z : World). wordOf (x .state) (x .memory) i ≡ wordOf (z .state) (z .memory) i → getD (z .picture) i 0 ≡ getD (x .picture) i 0) (other-dots-stay x a i h)
+
+  pub call-dots-change : (i : ℕ) → i < length (x .picture) → (wordOf (x .state) (x .memory) i ≡ wordOf (y .state) (y .memory) i → ⊥)
+      → getD (y .picture) i 0 ≡ wordOf (y .state) (y .memory) i
+  call-dots-change i h =
+      of-call (λ (q : Answer) (z : World). (wordOf (x .state) (x .memory) i ≡ wordOf (z .state) (z .memory) i → ⊥) → getD (z .picture) i 0 ≡ wordOf (z .state) (z .memory) i)
+      (differing-dots-change x a i h)
 
 -- which outcome it is, is fixed: two calls of the same give the same
 pub call-fixed : (x : World) (a : Access) (r r′ : Answer) (y y′ : World) → Called x a r y → Called x a r′ y′ → (r ≡ r′) × (y ≡ y′)
 call-fixed x a r r′ y y′ c d =
     (call-answers x a r y c ∙ sym (call-answers x a r′ y′ d), call-leaves x a r y c ∙ sym (call-leaves x a r′ y′ d))
 
--- and an opening
-pub open-refused : (w h : ℕ) (m p : List ℕ) (r : Opened) (y : World) → OpenCalled w h m p r y → OpeningHas w h (length m) (length p) (r .status)
-open-refused w h m p r y c = subst (λ (q : Opened). OpeningHas w h (length m) (length p) (q .status)) (sym (open-answers w h m p r y c)) (opening-refused w h m p)
+-- two calls through an aperture on worlds that share memory and its control register answer alike and leave the same memory
+pub call-aperture : (x x′ : World) (a : Access) (r r′ : Answer) (y y′ : World) → Called x a r y → Called x′ a r′ y′ → (i : ℕ) → Good x → Good x′
+    → placeOf (x .state) a ≡ Window i → SameWindow x x′ i → (r′ .status ≡ r .status) × (r′ .word ≡ r .word) × (r′ .known ≡ r .known) × (y′ .memory ≡ y .memory)
+call-aperture x x′ a r r′ y y′ c d i g h e v =
+    let z = aperture-depends x x′ a i g h e v in
+    of-call x a r y c (λ (q : Answer) (w : World). (r′ .status ≡ q .status) × (r′ .word ≡ q .word) × (r′ .known ≡ q .known) × (y′ .memory ≡ w .memory))
+    (of-call x′ a r′ y′ d
+    (λ (q : Answer) (w : World). (q .status ≡ step x a .answer .status) × (q .word ≡ step x a .answer .word) × (q .known ≡ step x a .answer .known) × (w .memory ≡ after x a .memory))
+    (z .status, z .word, z .known, z .memory))
+
+-- the command register gates no call, and one that does not lead to it answers alike and leaves the same memory
+pub call-command : (x x′ : World) (a : Access) (r r′ : Answer) (y y′ : World) → Called x a r y → Called x′ a r′ y′ → Good x → Good x′ → ButRow x x′ command
+    → (r′ .status ≡ r .status) × ((Leads (x .state) a (Register command) → ⊥) → (r′ .word ≡ r .word) × (r′ .known ≡ r .known) × (y′ .memory ≡ y .memory))
+call-command x x′ a r r′ y y′ c d g h b =
+    of-call x a r y c
+    (λ (q : Answer) (w : World).
+    (r′ .status ≡ q .status) × ((Leads (x .state) a (Register command) → ⊥) → (r′ .word ≡ q .word) × (r′ .known ≡ q .known) × (y′ .memory ≡ w .memory)))
+    (of-call x′ a r′ y′ d
+    (λ (q : Answer) (w : World).
+    (q .status ≡ step x a .answer .status)
+    × ((Leads (x .state) a (Register command) → ⊥) → (q .word ≡ step x a .answer .word) × (q .known ≡ step x a .answer .known) × (w .memory ≡ after x a .memory))) (
+      command-gates-nothing x x′ a g h b,
+      λ n. let z = command-alters-nothing x x′ a g h b n in (z .word, z .known, z .memory),
+    ))
+
+-- ---- an opening
+
+module _ (w h : ℕ) (m p : List ℕ) (r : Opened) (x : World) (c : OpenCalled w h m p r x) where
+  -- which status it has, each exactly where 01's line holds and no earlier one does
+  pub open-refused : OpeningHas w h (length m) (length p) (r .status)
+  open-refused = subst (λ (q : Opened). OpeningHas w h (length m) (length p) (q .status)) (sym (open-answers w h m p r x c)) (opening-refused w h m p)
+
+  told : {n : ℕ} → r .status ≡ n → openOf w h m p .answer .status ≡ n
+  told e = ap (λ (q : Opened). q .status) (sym (open-answers w h m p r x c)) ∙ e
+
+  -- one that is refused leaves a 0 by 0 state, and the buffers as lent ..
+  pub open-refused-leaves : (r .status ≡ 0 → ⊥) → (x .state ≡ resetState 0 0 0) × (x .memory ≡ m) × (x .picture ≡ p)
+  open-refused-leaves d =
+      subst (λ (z : World). (z .state ≡ resetState 0 0 0) × (z .memory ≡ m) × (z .picture ≡ p)) (sym (open-leaves w h m p r x c))
+      (refused-opening w h m p (λ e. d (ap (λ (q : Opened). q .status) (open-answers w h m p r x c) ∙ e)))
+
+  -- .. and one that is not, the reset state, the picture all 03000000h, and memory as lent
+  pub open-leaves-fresh : r .status ≡ 0 → (x .state ≡ resetState w h (length m)) × (x .memory ≡ m) × (x .picture ≡ replicate (w * h) 0x03000000)
+  open-leaves-fresh e =
+      let f = opening-gives w h m p (told e) in
+      subst (λ (z : World). (z .state ≡ resetState w h (length m)) × (z .memory ≡ m) × (z .picture ≡ replicate (w * h) 0x03000000)) (sym (open-leaves w h m p r x c))
+      (f .state, f .memory, f .picture)
 
 -- ---- any sequence of calls after an opening
 
 module _ (w h : ℕ) (m p : List ℕ) (r : Opened) (x : World) (c : OpenCalled w h m p r x) (l : List Access) (rs : List Answer) (z : World) (d : Calls x l rs z) where
-  -- demand 2: what the calls leave, and what each answers, is what the definitions give for the same list
+  -- what the calls leave, and what each answers, is what the definitions give for the same list
   pub calls-agree : (z ≡ run (opened w h m p) l) × (rs ≡ answers (opened w h m p) l)
   calls-agree =
       let e = open-leaves w h m p r x c in (
@@ -86,12 +178,44 @@ module _ (w h : ℕ) (m p : List ℕ) (r : Opened) (x : World) (c : OpenCalled w
   pub promised : (P : World → Type 0) → P (run (opened w h m p) l) → P z
   promised P q = subst P (sym (calls-agree .0)) q
 
-  module _ (o : Openable w h m p) where
-    -- a known bit was stored by an accepted write of the list, the last to store it, or none did and the reset tables state it
-    pub calls-bit-origin : (q : Spot) → Real q → (v : Bool) → holds (z .state) q ≡ some v → BitStored (opened w h m p) l q v ⊎ BitStated (opened w h m p) l q v
-    calls-bit-origin q k v =
-        promised (λ (u : World). holds (u .state) q ≡ some v → BitStored (opened w h m p) l q v ⊎ BitStated (opened w h m p) l q v) (bit-origin w h m p o l q k v)
-
+  module _ (o : r .status ≡ 0) where
     -- demand 3: the picture is the one drawn afresh
     pub calls-picture : z .picture ≡ drawn (z .state) (z .memory)
-    calls-picture = promised (λ (u : World). u .picture ≡ drawn (u .state) (u .memory)) (picture-right w h m p o l)
+    calls-picture = promised (λ (u : World). u .picture ≡ drawn (u .state) (u .memory)) (picture-right w h m p (told w h m p r x c o) l)
+
+    -- for the rest memory is lent as bytes, as its type has it
+    module _ (k : AreBytes m) where
+      openable : Openable w h m p
+      openable = record { accepted = told w h m p r x c o; bytes = k }
+
+      -- a state is never lost
+      pub calls-state : isState (z .state) ≡ true
+      calls-state = promised (λ (u : World). isState (u .state) ≡ true) (always-state w h m p openable l)
+
+      -- the word of each dot is the one of 01's rules
+      pub calls-dots : (i : ℕ) → i < length (z .picture) → Ruled (z .state) (z .memory) i (getD (z .picture) i 0)
+      calls-dots = promised (λ (u : World). (i : ℕ) → i < length (u .picture) → Ruled (u .state) (u .memory) i (getD (u .picture) i 0)) (dot-ruled w h m p openable l)
+
+      -- demand 2: what is held after the calls, and from where ..
+      pub calls-bits : (q : Spot) → Real q → (v : Bool) → (holds (z .state) q ≡ some v) ↔ (BitStored (opened w h m p) l q v ⊎ BitStated (opened w h m p) l q v)
+      calls-bits q f v =
+          promised (λ (u : World). (holds (u .state) q ≡ some v) ↔ (BitStored (opened w h m p) l q v ⊎ BitStated (opened w h m p) l q v)) (bit-exactly w h m p openable l q f v)
+
+      pub calls-bytes : (i : ℕ) → i < length m → (v : ℕ) → (getD (z .memory) i 0 ≡ v) ↔ (ByteStored (opened w h m p) l i v ⊎ ByteLent (opened w h m p) l i v)
+      calls-bytes i f v =
+          promised (λ (u : World). (getD (u .memory) i 0 ≡ v) ↔ (ByteStored (opened w h m p) l i v ⊎ ByteLent (opened w h m p) l i v)) (byte-exactly w h m p openable l i f v)
+
+      pub calls-entries : (e : ℕ) → e < entryCount → (f : Colour) → (entryOf (z .state .palette) e ≡ some f) ↔ Loaded (opened w h m p) l e f
+      calls-entries e g f =
+          promised (λ (u : World). (entryOf (u .state .palette) e ≡ some f) ↔ Loaded (opened w h m p) l e f) (entry-exactly w h m p openable l e g f)
+
+      -- .. and what the next call shows as known, at every place, and from where
+      pub calls-known : (a : Access) (s : Answer) (y : World) → Called z a s y → (b : ℕ) → b < 32 → (v : Bool) → (shows s b ≡ some v) ↔ ShownBy (opened w h m p) l a b v
+      calls-known a s y e b hb v =
+          of-call z a s y e (λ (q : Answer) (u : World). (shows q b ≡ some v) ↔ ShownBy (opened w h m p) l a b v)
+          (promised (λ (u : World). (shows (step u a .answer) b ≡ some v) ↔ ShownBy (opened w h m p) l a b v) (known-exactly w h m p openable l a b hb v))
+
+      -- so a zero that nobody stated or stored is never shown as known
+      pub calls-no-untold-zero : (a : Access) (s : Answer) (y : World) → Called z a s y → (b : ℕ) → b < 32
+          → (Told (opened w h m p) l a b false → ⊥) → shows s b ≡ some false → ⊥
+      calls-no-untold-zero a s y e b hb n f = n (calls-known a s y e b hb false .0 f .told)

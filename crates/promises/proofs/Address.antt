@@ -31,7 +31,8 @@ use Rattle.promises.specs.Along.{runs, lastPut}
 use Rattle.promises.specs.Reach.{reachAt}
 use Rattle.promises.specs.History.{accepted, isData, isAim, aimPut, dataSteps}
 use Rattle.promises.specs.Loads.{WritesPart}
-use Rattle.promises.specs.Origin.{SetsAddress, AddressSet, AddressAt}
+use Rattle.promises.specs.Origin.{SetBy, SetsAddress, AddressSet, AddressAt}
+use Rattle.promises.proofs.Widths.{kept-told}
 use Rattle.promises.proofs.Patches.{dacPut}
 use Rattle.promises.proofs.Sane.{sane}
 use Rattle.promises.proofs.Dacs.{paint-advances}
@@ -62,7 +63,7 @@ sets-address x a e =
 
 pub writes-part : (x : World) (a : Access) → isWrite a ≡ true → isData x a ≡ true
     → WritesPart x a (x .state .dac .address) (x .state .dac .component) (keptFrom (x .state) a)
-unfolding isData accepted keptFrom
+unfolding isData accepted
 writes-part x a w e =
     let r = and-second (eqb (statusAt x a) 0) _ e in
     record {
@@ -72,7 +73,7 @@ writes-part x a w e =
       lane = and-second (reachAt (placeOf (x .state) a) .paints) (bit 0 (a .enables)) r;
       entry = refl;
       component = refl;
-      value = refl;
+      value = kept-told (x .state) a;
     }
 
 -- and back
@@ -178,11 +179,6 @@ set-at x l g v n s =
 never-known : (x : World) (l : List Access) → Good x → lastPut after aimPut x l ≡ none → run x l .state .dac .known ≡ x .state .dac .known
 never-known x l g e = along x l g e .known
 
-pub record SetBy (x : World) (l : List Access) : Type 0 where
-  pub value : ℕ
-  pub steps : ℕ
-  pub set : AddressSet x l value steps
-
 aims-is : (y : World) (a : Access) (v : ℕ) → aimPut y a ≡ some v → SetsAddress y a v
 unfolding aimPut
 aims-is y a v e =
@@ -220,4 +216,4 @@ pub never-set : (w h : ℕ) (m p : List ℕ) → Openable w h m p → (l : List 
     → run (opened w h m p) l .state .dac .known ≡ 0
 unfolding resetState resetDac
 never-set w h m p o l e =
-    never-known (opened w h m p) l (opened-good w h m p o) e ∙ ap (λ (s : State). s .dac .known) (opens w h m p o .state)
+    never-known (opened w h m p) l (opened-good w h m p o) e ∙ ap (λ (s : State). s .dac .known) (opens w h m p (o .accepted) .state)

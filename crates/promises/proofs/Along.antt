@@ -1,7 +1,7 @@
 -- What a place holds after a list of steps, for any machine: what a step put there last, and else what it held.
 -- By induction on the list, from the law of one step. Assumes nothing.
 use mathlib.Core.List.{List, [], _∷_, _++_}
-use mathlib.Core.Logic.{_⊎_, inl, inr}
+use mathlib.Core.Logic.{_↔_, _⊎_, inl, inr}
 use mathlib.Core.Option.{Option, none, some, Option·getD}
 use mathlib.Core.Path.{_≡_, refl, sym, ap, ap₂, _∙_, subst}
 use Rattle.promises.specs.Along.{runs, laterOf, lastPut, PutLast, PutNever}
@@ -49,6 +49,12 @@ module _ {W A C : Type 0} (step : W → A → W) (puts : W → A → Option C) w
           })
       go (inr n) = none-before x a l n (puts x a) refl
 
+  -- what a step put, and none after it, was put last
+  pub last-of : (x : W) (b : List A) (a : A) (r : List A) (v : C) → puts (runs step x b) a ≡ some v → lastPut step puts (step (runs step x b) a) r ≡ none
+      → lastPut step puts x (b ++ a ∷ r) ≡ some v
+  last-of x [] a r v e s = ap (λ (q : Option C). laterOf q (puts x a)) s ∙ e
+  last-of x (c ∷ b) a r v e s = ap (λ (q : Option C). laterOf q (puts x c)) (last-of (step x c) b a r v e s)
+
   -- nothing is put exactly where no step of the list puts anything
   pub silent-in : (x : W) (b : List A) (a : A) (r : List A) → lastPut step puts x (b ++ a ∷ r) ≡ none → puts (runs step x b) a ≡ none
   silent-in x [] a r e = later-none (lastPut step puts (step x a) r) (puts x a) e .1
@@ -83,3 +89,17 @@ module _ {W A C : Type 0} (step : W → A → W) (puts : W → A → Option C) (
       go (inl f) =
           inl (subst (PutLast step puts x l) (sym (read-along x l g ∙ ap (λ (q : Option C). Option·getD q (read x)) (f .last))) (f .put))
       go (inr n) = inr (record { silent = n; same = read-along x l g ∙ ap (λ (q : Option C). Option·getD q (read x)) n })
+
+  -- .. and back: so it holds v exactly where v was put last, or nothing was and it held v
+  pub exactly : (x : W) (l : List A) → Good x → (v : C) → (read (runs step x l) ≡ v) ↔ (PutLast step puts x l v ⊎ PutNever step puts x l (read x) v)
+  exactly x l g v = (
+    (λ e. subst (λ (u : C). PutLast step puts x l u ⊎ PutNever step puts x l (read x) u) e (whence x l g)),
+    back,
+  )
+    where
+      back : PutLast step puts x l v ⊎ PutNever step puts x l (read x) v → read (runs step x l) ≡ v
+      back (inl f) =
+          read-along x l g
+          ∙ ap (λ (q : Option C). Option·getD q (read x))
+          (ap (lastPut step puts x) (f .split) ∙ last-of step puts x (f .before) (f .by) (f .rest) v (f .put) (f .silent))
+      back (inr n) = read-along x l g ∙ ap (λ (q : Option C). Option·getD q (read x)) (n .silent) ∙ sym (n .same)

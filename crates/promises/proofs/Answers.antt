@@ -106,9 +106,9 @@ read-memory : (x : World) (a : Access) → isWrite a ≡ false → after x a .me
 unfolding memoryWith
 read-memory x a w = after-memory x a ∙ ap (putAll (x .memory)) (simp (not-written x a w) at (does x a .puts))
 
-read-picture : (x : World) (a : Access) → StepsOnly (x .state) (after x a .state) → after x a .memory ≡ x .memory → after x a .picture ≡ x .picture
+pub still-picture : (x : World) (a : Access) → StepsOnly (x .state) (after x a .state) → after x a .memory ≡ x .memory → after x a .picture ≡ x .picture
 unfolding doneBy settled refused
-read-picture x a =
+still-picture x a =
     by-way (λ (o : Outcome). StepsOnly (x .state) (o .answer .state) → o .memory ≡ x .memory → o .picture ≡ x .picture) x a
     (λ d e f. redrawn-alike _ _ (x .picture) (still-word (x .state) _ (x .memory) _ e f)) (λ e f. refl)
 
@@ -117,4 +117,4 @@ pub read-leaves : (x : World) (a : Access) → isWrite a ≡ false → LeavesRes
 read-leaves x a w =
     let e = read-state x a w in
     let f = read-memory x a w in
-    record { state = e; memory = f; picture = read-picture x a e f }
+    record { state = e; memory = f; picture = still-picture x a e f }

@@ -1,31 +1,44 @@
--- What depends on what: a dot's word on the view and memory; an aperture access on its own control register.
--- By rewriting the definitions with what two states or worlds share. Assumes nothing.
+-- What depends on what: a dot's word on the view and memory; an aperture access on its own control register; no access on the command register.
+-- A place is the same to an access in two worlds that share what it asks for, and then so is the answer. Assumes nothing.
 use Prim.Native.Nat.{ℕ, _%_}
-use mathlib.Core.Bool.{not, _&&_}
+use mathlib.Core.Bool.{Bool, true, not, _&&_}
 use mathlib.Core.List.{List, [], _∷_}
 use mathlib.Core.Path.{_≡_, refl, sym, ap, ap₂, _∙_}
-use borrow.Author.Tests.{eq-eqb}
+use native.Mathlib.Omega.{arith}
+use borrow.Author.Tests.{eqb-true, eqb-false, eq-eqb}
 use lib.Dec.{eqb, leb}
-use lib.ListN.{getD, length}
+use lib.ListN.{length}
 use Rattle.bits.specs.Choose.{pick}
-use Rattle.bits.specs.Word.{full}
-use Rattle.bits.proofs.Cases.{byTest, pick-same}
+use Rattle.bits.specs.Bit.{bit}
+use Rattle.bits.proofs.Cases.{byTest}
 use Rattle.chip.specs.declared.State.{State}
 use Rattle.chip.specs.declared.Access.{Access}
-use Rattle.chip.specs.declared.Place.the-variants.{Window}
-use Rattle.chip.specs.Aperture.{span, reachesMemory, served, wordFrom, putsOf, putAll}
-use Rattle.chip.specs.Units.{atByte}
+use Rattle.chip.specs.declared.Dac.{Dac}
+use Rattle.chip.specs.declared.Answer.{Answer}
+use Rattle.chip.specs.declared.Seen.{Seen}
+use Rattle.chip.specs.declared.Place.{Place}
+use Rattle.chip.specs.declared.Place.the-variants.{Register, Address, PaletteData, Window, Blank, Nowhere}
+use Rattle.chip.specs.Bank.{miscControl}
+use Rattle.chip.specs.Aperture.{Put, putAll}
 use Rattle.chip.specs.View.{View, viewOf}
 use Rattle.chip.specs.Picture.{viewWord, wordOf}
-use Rattle.chip.specs.Place.{placeOf}
+use Rattle.chip.specs.Place.{placeAt, placeOf}
 use Rattle.chip.specs.Patch.{memoryWith}
-use Rattle.chip.specs.Port.{seen, knownIn, wordIn, pokePatch, portAt}
+use Rattle.chip.specs.Port.{knownIn, wordIn, wide, pokePatch, portAt}
 use Rattle.chip.specs.Refusal.{line, firstOf, isWrite, portOf, laterLines, accessLines, statusOf}
-use Rattle.chip.specs.Step.{refused, settled, seenBy, patchOf, memoryAfter, doneBy, givenBy, stepOf}
 use Rattle.chip.specs.Trace.{World, step, after}
 use Rattle.promises.specs.Good.{Good, statusAt}
-use Rattle.promises.specs.View.{SameWindow}
+use Rattle.promises.specs.Reach.{reachAt}
+use Rattle.promises.specs.Places.{Leads, one, two}
+use Rattle.promises.specs.History.{accepted, Accepted}
+use Rattle.promises.specs.View.{SameAnswer, SameWindow, command, ButRow}
+use Rattle.promises.proofs.Does.{putsFrom, does}
 use Rattle.promises.proofs.Sites.{window-there}
+use Rattle.promises.proofs.Places.{place-leads}
+use Rattle.promises.proofs.Worlds.{after-memory}
+use Rattle.promises.proofs.Shown.{sees, answer-word, answer-known}
+use Rattle.promises.proofs.Answers.{write-answers}
+use Rattle.promises.proofs.Promise1Refusals.{access-status, refused-alters-nothing}
 
 -- ---- a dot's word
 
@@ -33,84 +46,155 @@ pub same-word : (s n : State) (m : List ℕ) (i : ℕ) → viewOf n ≡ viewOf s
 unfolding wordOf
 same-word s n m i e = ap (λ (v : View). viewWord v m i) e
 
+-- ---- two worlds in which a place is the same to an access
+
+-- it is there, has the directions and is served alike ..
+record SameWays (x y : World) (a : Access) (p : Place) : Type 0 where
+  present : portAt (y .state) a p .present ≡ portAt (x .state) a p .present
+  reads : portAt (y .state) a p .reads ≡ portAt (x .state) a p .reads
+  writes : portAt (y .state) a p .writes ≡ portAt (x .state) a p .writes
+  served : portAt (y .state) a p .served ≡ portAt (x .state) a p .served
+
+-- .. and shows and stores alike
+record SamePort (x y : World) (a : Access) (p : Place) : Type 0 where
+  ways : SameWays x y a p
+  seen : portAt (y .state) a p .seen (y .memory) ≡ portAt (x .state) a p .seen (x .memory)
+  puts : putsFrom (y .state) a (reachAt p .window) ≡ putsFrom (x .state) a (reachAt p .window)
+
+-- a good world's status, from the access and what its place is to it
+portStatus : Access → Bool → Bool → Bool → Bool → ℕ
+portStatus a here r w t =
+    firstOf
+    (line 3 (not (leb (a .target) 3 && leb (a .enables) 15)) ∷ line 4 (not (eqb (a .offset % 4) 0)) ∷ line 5 (not here) ∷ line 6 (not (pick (isWrite a) w r))
+    ∷ line 7 (not t) ∷ [])
+
+abbrev statusBy : State → Access → Place → ℕ
+statusBy s a p = portStatus a (portAt s a p .present) (portAt s a p .reads) (portAt s a p .writes) (portAt s a p .served)
+
+good-status : (x : World) (a : Access) (p : Place) → Good x → placeOf (x .state) a ≡ p → statusAt x a ≡ statusBy (x .state) a p
+unfolding statusOf accessLines laterLines portOf portStatus
+good-status x a p g e = simp (g .state, eq-eqb _ _ (g .memory), eq-eqb _ _ (g .picture), e)
+
+-- an answer of 0 and 0: a write's, or a refusal
+record Silent (x : World) (a : Access) : Type 0 where
+  word : step x a .answer .word ≡ 0
+  known : step x a .answer .known ≡ 0
+
+silent-write : (x : World) (a : Access) → isWrite a ≡ true → Silent x a
+silent-write x a w = let z = write-answers x a w in record { word = z .0; known = z .1 }
+
+silent-refused : (x : World) (a : Access) → (statusAt x a ≡ 0 → ⊥) → Silent x a
+silent-refused x a n =
+    let z = refused-alters-nothing x a (λ e. n (sym (access-status x a) ∙ e)) .0 in
+    record { word = ap (λ (r : Answer). r .word) z; known = ap (λ (r : Answer). r .known) z }
+
+module _ (x y : World) (a : Access) (p : Place) (g : Good x) (h : Good y) (e : placeOf (x .state) a ≡ p) (f : placeOf (y .state) a ≡ p) where
+  same-status : SameWays x y a p → statusAt y a ≡ statusAt x a
+  same-status q = good-status y a p h f ∙ simp (q .present, q .reads, q .writes, q .served) (sym (good-status x a p g e))
+
+  -- what an accepted read sees, and what an accepted write puts into memory
+  sees-at : (z : World) → placeOf (z .state) a ≡ p → sees z a ≡ portAt (z .state) a p .seen (z .memory)
+  unfolding portOf
+  sees-at z k = ap (λ (r : Place). portAt (z .state) a r .seen (z .memory)) k
+
+  puts-at : (z : World) → placeOf (z .state) a ≡ p → after z a .memory ≡ putAll (z .memory) (pick (accepted z a && isWrite a) (putsFrom (z .state) a (reachAt p .window)) [])
+  unfolding memoryWith
+  puts-at z k =
+      after-memory z a
+      ∙ ap (putAll (z .memory)) (does z a .puts ∙ ap (λ (r : Place). pick (accepted z a && isWrite a) (putsFrom (z .state) a (reachAt r .window)) []) k)
+
+  -- a read of both, or neither an answer
+  by-way : (P : Type 0) → statusAt y a ≡ statusAt x a → (Accepted x a → Accepted y a → P) → (Silent x a → Silent y a → P) → P
+  by-way P n r s =
+      byTest (isWrite a)
+      (λ w. s (silent-write x a w) (silent-write y a w))
+      (λ w.
+      byTest (eqb (statusAt x a) 0)
+      (λ q. r (record { read = w; done = eqb-true _ 0 q }) (record { read = w; done = n ∙ eqb-true _ 0 q }))
+      (λ q. s (silent-refused x a (eqb-false _ 0 q)) (silent-refused y a (λ z. eqb-false _ 0 q (sym n ∙ z)))))
+
+  same-port : SamePort x y a p → y .memory ≡ x .memory → SameAnswer x y a
+  unfolding accepted
+  same-port q m =
+      let n = same-status (q .ways) in
+      let v : sees y a ≡ sees x a = sees-at y f ∙ q .seen ∙ sym (sees-at x e) in
+      record {
+        status = access-status y a ∙ n ∙ sym (access-status x a);
+        word =
+            by-way _ n (λ r s. answer-word y a s ∙ ap (λ (z : Seen). wordIn z (a .enables)) v ∙ sym (answer-word x a r))
+            (λ r s. s .word ∙ sym (r .word));
+        known =
+            by-way _ n (λ r s. answer-known y a s ∙ ap (λ (z : Seen). knownIn z (a .enables)) v ∙ sym (answer-known x a r))
+            (λ r s. s .known ∙ sym (r .known));
+        memory = puts-at y f ∙ ap₂ putAll m (ap₂ (λ (k : ℕ) (u : List Put). pick (eqb k 0 && isWrite a) u []) n (q .puts)) ∙ sym (puts-at x e);
+      }
+
 -- ---- an aperture access
 
--- its status, from memory's length and the control register
-windowStatus : ℕ → ℕ → Access → ℕ
-windowStatus ml control a =
-    firstOf
-    (line 3 (not (leb (a .target) 3 && leb (a .enables) 15)) ∷ line 4 (not (eqb (a .offset % 4) 0))
-    ∷ line 5 (not (reachesMemory ml (span control (atByte (a .offset))))) ∷ line 7 (not (served control)) ∷ [])
-
-window-status : (x : World) (a : Access) (i : ℕ) → Good x → placeOf (x .state) a ≡ Window i
-    → statusAt x a ≡ windowStatus (length (x .memory)) (getD (x .state .values) i 0) a
-unfolding statusOf accessLines laterLines portOf portAt windowStatus
-window-status x a i g e =
-    let f : x .state .fitted ≡ length (x .memory) = sym (g .memory) in
-    simp (g .state, eq-eqb (length (x .memory)) (length (x .memory)) refl, eq-eqb _ _ (g .picture), e, f, pick-same)
-
--- what it answers, and the memory that it leaves, for a status n
-windowWord : ℕ → List ℕ → ℕ → Access → ℕ
-windowWord n m control a =
-    pick (eqb n 0) (wordIn (pick (isWrite a) (seen 0 0) (seen (wordFrom control m (atByte (a .offset))) full)) (a .enables)) 0
-
-windowKnown : ℕ → List ℕ → ℕ → Access → ℕ
-windowKnown n m control a =
-    pick (eqb n 0) (knownIn (pick (isWrite a) (seen 0 0) (seen (wordFrom control m (atByte (a .offset))) full)) (a .enables)) 0
-
-windowMemory : ℕ → List ℕ → ℕ → Access → List ℕ
-windowMemory n m control a =
-    pick (eqb n 0) (pick (isWrite a) (putAll m (putsOf control (atByte (a .offset)) (a .enables) (a .word))) m) m
-
-module _ (n : ℕ) (s : State) (m p : List ℕ) (a : Access) (i : ℕ) (e : placeOf s a ≡ Window i) where
-  given-status : givenBy n s m p a .answer .status ≡ pick (eqb n 0) 0 n
-  unfolding givenBy doneBy settled refused
-  given-status = byTest (eqb n 0) (λ q. simp q) (λ q. simp q)
-
-  given-word : givenBy n s m p a .answer .word ≡ windowWord n m (getD (s .values) i 0) a
-  unfolding givenBy doneBy settled refused seenBy portOf portAt windowWord
-  given-word = byTest (eqb n 0) (λ q. simp (q, e)) (λ q. simp q)
-
-  given-known : givenBy n s m p a .answer .known ≡ windowKnown n m (getD (s .values) i 0) a
-  unfolding givenBy doneBy settled refused seenBy portOf portAt windowKnown
-  given-known = byTest (eqb n 0) (λ q. simp (q, e)) (λ q. simp q)
-
-  given-memory : givenBy n s m p a .memory ≡ windowMemory n m (getD (s .values) i 0) a
-  unfolding givenBy doneBy settled refused memoryAfter patchOf portOf portAt pokePatch memoryWith windowMemory
-  given-memory =
-      byTest (eqb n 0)
-      (λ q. byTest (isWrite a) (λ w. simp (q, w, e)) (λ w. simp (q, w, e)))
-      (λ q. simp q)
-
-pub record SameAnswer (x y : World) (a : Access) : Type 0 where
-  pub status : step y a .answer .status ≡ step x a .answer .status
-  pub word : step y a .answer .word ≡ step x a .answer .word
-  pub known : step y a .answer .known ≡ step x a .answer .known
-  pub memory : after y a .memory ≡ after x a .memory
-
 pub same-window : (x y : World) (a : Access) (i : ℕ) → Good x → Good y → placeOf (x .state) a ≡ Window i → SameWindow x y i → SameAnswer x y a
-unfolding stepOf
+unfolding portAt reachAt
 same-window x y a i g h e v =
-    let u : placeOf (y .state) a ≡ Window i = window-there (x .state) (y .state) a i e in
-    let n : statusAt y a ≡ statusAt x a =
-    window-status y a i h u ∙ ap₂ (λ (m : List ℕ) (c : ℕ). windowStatus (length m) c a) (v .memory) (v .control) ∙ sym (window-status x a i g e) in
-    record {
-      status =
-          given-status (statusAt y a) (y .state) (y .memory) (y .picture) a i u ∙ ap (λ (k : ℕ). pick (eqb k 0) 0 k) n
-          ∙ sym (given-status (statusAt x a) (x .state) (x .memory) (x .picture) a i e);
-      word =
-          given-word (statusAt y a) (y .state) (y .memory) (y .picture) a i u
-          ∙ ap (λ (k : ℕ). windowWord k (y .memory) (getD (y .state .values) i 0) a) n
-          ∙ ap₂ (λ (m : List ℕ) (c : ℕ). windowWord (statusAt x a) m c a) (v .memory) (v .control)
-          ∙ sym (given-word (statusAt x a) (x .state) (x .memory) (x .picture) a i e);
-      known =
-          given-known (statusAt y a) (y .state) (y .memory) (y .picture) a i u
-          ∙ ap (λ (k : ℕ). windowKnown k (y .memory) (getD (y .state .values) i 0) a) n
-          ∙ ap₂ (λ (m : List ℕ) (c : ℕ). windowKnown (statusAt x a) m c a) (v .memory) (v .control)
-          ∙ sym (given-known (statusAt x a) (x .state) (x .memory) (x .picture) a i e);
-      memory =
-          given-memory (statusAt y a) (y .state) (y .memory) (y .picture) a i u
-          ∙ ap (λ (k : ℕ). windowMemory k (y .memory) (getD (y .state .values) i 0) a) n
-          ∙ ap₂ (λ (m : List ℕ) (c : ℕ). windowMemory (statusAt x a) m c a) (v .memory) (v .control)
-          ∙ sym (given-memory (statusAt x a) (x .state) (x .memory) (x .picture) a i e);
-    }
+    let f : y .state .fitted ≡ x .state .fitted = sym (h .memory) ∙ ap length (v .memory) ∙ g .memory in
+    same-port x y a (Window i) g h e (window-there (x .state) (y .state) a i e)
+    (record {
+      ways = record { present = simp (f, v .control); reads = refl; writes = refl; served = simp (v .control) };
+      seen = simp (v .control, v .memory);
+      puts = ap (λ (c : ℕ). pokePatch c a .puts) (v .control);
+    })
+    (v .memory)
+
+-- ---- the command register
+
+module _ (x y : World) (a : Access) (b : ButRow x y command) where
+  aperture : (i : ℕ) → Leads (x .state) a (Window i) → i ≡ command → ⊥
+  aperture i (one t) e = omega (arith, e)
+  aperture i (two t) e = omega (arith, e)
+
+  wide-same : wide (y .state) ≡ wide (x .state)
+  unfolding wide
+  wide-same = ap (bit 1) (b .values miscControl (λ e. omega (arith, e)))
+
+  ways-at : (p : Place) → placeOf (x .state) a ≡ p → SameWays x y a p
+  unfolding portAt
+  ways-at (Register i) e = record { present = refl; reads = refl; writes = refl; served = refl }
+  ways-at Address e = record { present = refl; reads = refl; writes = refl; served = refl }
+  ways-at PaletteData e = record { present = refl; reads = refl; writes = refl; served = refl }
+  ways-at (Window i) e =
+      let v = b .values i (aperture i (place-leads (x .state) a (Window i) refl e)) in
+      record { present = simp (b .fitted, v); reads = refl; writes = refl; served = simp v }
+  ways-at Blank e = record { present = refl; reads = refl; writes = refl; served = refl }
+  ways-at Nowhere e = record { present = refl; reads = refl; writes = refl; served = refl }
+
+  seen-at : (p : Place) → placeOf (x .state) a ≡ p → (p ≡ Register command → ⊥) → portAt (y .state) a p .seen (y .memory) ≡ portAt (x .state) a p .seen (x .memory)
+  unfolding portAt
+  seen-at (Register i) e n = simp (b .values i (λ q. n (ap Register q)), b .knowns)
+  seen-at Address e n = simp (b .dac)
+  seen-at PaletteData e n = simp (wide-same, b .dac, b .palette)
+  seen-at (Window i) e n = simp (b .values i (aperture i (place-leads (x .state) a (Window i) refl e)), b .memory)
+  seen-at Blank e n = refl
+  seen-at Nowhere e n = refl
+
+  puts-alike : (p : Place) → placeOf (x .state) a ≡ p → putsFrom (y .state) a (reachAt p .window) ≡ putsFrom (x .state) a (reachAt p .window)
+  unfolding reachAt
+  puts-alike (Window i) e = ap (λ (c : ℕ). pokePatch c a .puts) (b .values i (aperture i (place-leads (x .state) a (Window i) refl e)))
+  puts-alike (Register i) e = refl
+  puts-alike Address e = refl
+  puts-alike PaletteData e = refl
+  puts-alike Blank e = refl
+  puts-alike Nowhere e = refl
+
+  there : placeOf (y .state) a ≡ placeOf (x .state) a
+  there = ap (λ (d : Dac). placeAt d (a .target) (a .offset)) (b .dac)
+
+  pub gates-none : Good x → Good y → statusAt y a ≡ statusAt x a
+  gates-none g h = same-status x y a (placeOf (x .state) a) g h refl there (ways-at (placeOf (x .state) a) refl)
+
+  pub same-elsewhere : Good x → Good y → (placeOf (x .state) a ≡ Register command → ⊥) → SameAnswer x y a
+  same-elsewhere g h n =
+      same-port x y a (placeOf (x .state) a) g h refl there
+      (record {
+        ways = ways-at (placeOf (x .state) a) refl;
+        seen = seen-at (placeOf (x .state) a) refl n;
+        puts = puts-alike (placeOf (x .state) a) refl;
+      })
+      (b .memory)

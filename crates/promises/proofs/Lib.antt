@@ -1,4 +1,6 @@
+pub mod Options
 pub mod Patches
+pub mod Widths
 pub mod Sane
 pub mod Moved
 pub mod Bank
@@ -19,7 +21,9 @@ pub mod Pokes
 pub mod Moves
 pub mod MemoryBytes
 pub mod Pictures
+pub mod Dots
 pub mod Answers
+pub mod Lane0
 pub mod Depends
 pub mod Worked
 pub mod Origins
@@ -28,6 +32,7 @@ pub mod Promise1Refusals
 pub mod Promise2States
 pub mod Promise3Only
 pub mod Promise4Origins
+pub mod Promise4Known
 pub mod Promise5Picture
 pub mod Promise6Altered
 pub mod Promise7Depends

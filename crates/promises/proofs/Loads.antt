@@ -2,13 +2,13 @@
 -- Forth: the write that completes it found red and green staged, and what staged them is found by going back along the list, twice. Back: the stage is followed
 -- along the load. Assumes nothing.
 use Prim.Native.Nat.{ℕ, _<_}
-use mathlib.Core.Bool.{Bool, true, false, not, _&&_}
+use mathlib.Core.Bool.{true, false, not, _&&_}
 use mathlib.Core.List.{List, [], _∷_, _++_}
 use mathlib.Core.Logic.{_⊎_, inl, inr}
 use mathlib.Core.Option.{Option, none, some, Option·getD}
 use mathlib.Core.Path.{_≡_, refl, sym, ap, ap₂, _∙_, subst, subst₂}
 use native.Mathlib.Omega.{arith}
-use borrow.Author.Tests.{eqb-true, eq-eqb, lt-ltb}
+use borrow.Author.Tests.{not-true, eqb-true, eq-eqb, lt-ltb}
 use lib.Dec.{eqb, ltb}
 use Rattle.bits.specs.Choose.{pick}
 use Rattle.bits.specs.Word.{laneByte}
@@ -27,6 +27,8 @@ use Rattle.promises.specs.Reach.{reachAt}
 use Rattle.promises.specs.Along.{runs, lastPut, PutLast, PutNever}
 use Rattle.promises.specs.History.{accepted, isData, isAim}
 use Rattle.promises.specs.Loads.{WritesPart, disturbs, calm, Load, NoLoad, Loaded}
+use Rattle.promises.proofs.Options.{some-is, absurd-put}
+use Rattle.promises.proofs.Widths.{kept-told}
 use Rattle.promises.proofs.Patches.{patchAt, putsEntry, dacPut, entryPut}
 use Rattle.promises.proofs.Along.{Found, find, whence, read-along, silent-in, silent-all, later-none}
 use Rattle.promises.proofs.Does.{stepped, does}
@@ -36,9 +38,6 @@ use Rattle.promises.proofs.Only.{calm-after}
 use Rattle.promises.proofs.Address.{dac-step, run-runs, run-append, writes-part}
 
 -- ---- one write
-
-some-is : {C : Type 0} {x y : C} → some x ≡ some y → x ≡ y
-some-is {C} {x} {y} q = ap (λ (o : Option C). Option·getD o x) q
 
 -- the write that completes an entry finds red and green staged
 record Completes (d : Dac) (v e : ℕ) (c : Colour) : Type 0 where
@@ -311,25 +310,20 @@ part-data y b e c v p =
     }
 
 part-dac : (y : World) (b : Access) (e c v : ℕ) → WritesPart y b e c v → after y b .state .dac ≡ afterPaint (y .state .dac) v
-unfolding keptFrom
 part-dac y b e c v p =
     let t = part-data y b e c v p in
     dac-step y b
     ∙ ap (λ (o : Option Dac). Option·getD o (y .state .dac)) (simp (t .aim, t .is-data, p .write) at (does y b .dac))
-    ∙ ap (afterPaint (y .state .dac)) (sym (p .value))
+    ∙ ap (afterPaint (y .state .dac)) (kept-told (y .state) b ∙ sym (p .value))
 
 -- what does not disturb a load leaves what is staged
-not-true : (t : Bool) → not t ≡ true → t ≡ false
-not-true true e = cc
-not-true false e = refl
-
 calm-dac : (x : World) (l : List Access) → calm x l ≡ true → run x l .state .dac ≡ x .state .dac
 calm-dac x [] e = refl
 calm-dac x (a ∷ l) e =
     calm-dac (after x a) l (and-second (not (disturbs x a)) _ e) ∙ calm-after x a (not-true (disturbs x a) (and-first (not (disturbs x a)) _ e))
 
 pub load-puts : (x : World) (l : List Access) (a : Access) (e : ℕ) (c : Colour) → Load x l a e c → entryPut e (run x l) a ≡ some (some c)
-unfolding putsEntry keptFrom
+unfolding putsEntry
 load-puts x l a e c f =
     let y = run x (f .start) in
     let d = y .state .dac in
@@ -348,17 +342,11 @@ load-puts x l a e c f =
     let h : d .address ≡ e = f .first .entry in
     ap (putsEntry e)
     ((simp (f .third .write, t .is-data) at (does (run x l) a .paint))
-    ∙ ap₂ completedBy blue-at (sym (f .third .value))
+    ∙ ap₂ completedBy blue-at (kept-told (run x l .state) a ∙ sym (f .third .value))
     ∙ paint-blue (staged d 2 2 (c .red) (c .green)) (c .blue) refl refl)
     ∙ simp (eq-eqb (d .address) e h)
 
 -- ---- along the list
-
-absurd-put : {P C : Type 0} (o : Option C) (c : C) → o ≡ none → o ≡ some c → P
-absurd-put {P} {C} o c n p = absurd (let z : _≡_ {A = ℕ} 0 1 = zero-one (sym n ∙ p) in omega arith)
-  where
-    zero-one : _≡_ {A = Option C} none (some c) → _≡_ {A = ℕ} 0 1
-    zero-one e = cc
 
 -- a write that completes no load stores no entry
 no-colour : (e : ℕ) (o : Option Paint) → ((c : Colour) → putsEntry e o ≡ some (some c) → ⊥) → putsEntry e o ≡ none

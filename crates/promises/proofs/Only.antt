@@ -15,13 +15,13 @@ use Rattle.chip.specs.declared.Colour.{Colour}
 use Rattle.chip.specs.declared.Dac.{Dac}
 use Rattle.chip.specs.Palette.{entryCount, entryOf}
 use Rattle.chip.specs.Dac.{aimedAt, advanced, afterPeek, bothStaged, completedBy}
-use Rattle.chip.specs.Port.{keptFrom}
 use Rattle.chip.specs.Refusal.{isWrite}
 use Rattle.chip.specs.Trace.{World, after}
 use Rattle.promises.specs.Good.{Good}
 use Rattle.promises.specs.History.{isData, isAim}
 use Rattle.promises.specs.Frame.{Aimed, Advanced, completes, madeColour}
 use Rattle.promises.specs.Loads.{disturbs}
+use Rattle.promises.proofs.Widths.{kept-told}
 use Rattle.promises.proofs.Patches.{putsEntry, entryPut}
 use Rattle.promises.proofs.Dacs.{paint-advances}
 use Rattle.promises.proofs.Does.{does}
@@ -31,11 +31,11 @@ use Rattle.promises.proofs.Address.{dac-step, component-le, data-not-ai
 -- ---- palette entries
 
 entry-told : (x : World) (a : Access) (e : ℕ) → entryPut e x a ≡ pick (completes x a e) (some (some (madeColour (x .state) a))) none
-unfolding completes madeColour completedBy bothStaged putsEntry keptFrom
+unfolding completes madeColour completedBy bothStaged putsEntry
 entry-told x a e =
     ap (putsEntry e) (does x a .paint)
     ∙ byTest (isWrite a && isData x a)
-    (λ t. byTest (eqb (x .state .dac .component) 2 && eqb (x .state .dac .staged) 2) (λ u. simp (t, u)) (λ u. simp (t, u)))
+    (λ t. byTest (eqb (x .state .dac .component) 2 && eqb (x .state .dac .staged) 2) (λ u. simp (t, u, kept-told (x .state) a)) (λ u. simp (t, u)))
     (λ t. simp t)
 
 pub entry-after : (x : World) (a : Access) (e : ℕ) → Good x → e < entryCount

@@ -4,8 +4,8 @@ use Prim.Native.Nat.{ℕ}
 use mathlib.Core.Bool.{Bool, true, _&&_}
 use mathlib.Core.List.{List}
 use mathlib.Core.Option.{Option, none, some}
-use mathlib.Core.Path.{_≡_, refl, sym, ap, ap₂, _∙_}
-use native.Mathlib.Omega.{arith}
+use mathlib.Core.Path.{_≡_, refl, sym, ap, ap₂, _∙_, subst}
+use borrow.Author.Tests.{eq-eqb}
 use lib.ListN.{getD, length}
 use Rattle.bits.specs.Bit.{bit}
 use Rattle.bits.proofs.Cases.{byTest}
@@ -16,16 +16,19 @@ use Rattle.chip.specs.declared.Place.the-variants.{Window}
 use Rattle.chip.specs.Place.{placeOf}
 use Rattle.chip.specs.Refusal.{isWrite}
 use Rattle.chip.specs.State.{resetState}
-use Rattle.chip.specs.Trace.{World, opened}
+use Rattle.chip.specs.Trace.{World, opened, after, run}
 use Rattle.chip.proofs.Tables.{resets-at, knowns-at}
 use Rattle.promises.specs.Good.{statusAt, Openable}
 use Rattle.promises.specs.Reach.{reachAt}
 use Rattle.promises.specs.History.{accepted, seenBit, Spot, holds, stated}
 use Rattle.promises.specs.Frame.{moves, broughtBit, lanePut, windowPut, bytePut}
-use Rattle.promises.specs.Origin.{bitPut}
+use Rattle.promises.specs.Along.{runs, lastPut, PutLast}
+use Rattle.promises.specs.Origin.{bitPut, BitStored, ByteStored}
+use Rattle.promises.proofs.Options.{absurd-put}
 use Rattle.promises.proofs.Sites.{names}
 use Rattle.promises.proofs.Moves.{done}
 use Rattle.promises.proofs.Worlds.{opens}
+use Rattle.promises.proofs.Address.{run-runs}
 
 -- ---- what the reset tables state
 
@@ -34,13 +37,7 @@ unfolding holds stated resetState
 reset-holds w h f q = ap₂ (λ (k v : ℕ). seenBit (bit (q .b) k) (bit (q .b) v)) (knowns-at (q .row)) (resets-at (q .row))
 
 pub opened-holds : (w h : ℕ) (m p : List ℕ) → Openable w h m p → (q : Spot) → holds (opened w h m p .state) q ≡ stated q
-opened-holds w h m p o q = ap (λ (s : State). holds s q) (opens w h m p o .state) ∙ reset-holds w h (length m) q
-
-absurd-put : {P C : Type 0} (o : Option C) (c : C) → o ≡ none → o ≡ some c → P
-absurd-put {P} {C} o c n p = absurd (let z : _≡_ {A = ℕ} 0 1 = zero-one (sym n ∙ p) in omega arith)
-  where
-    zero-one : _≡_ {A = Option C} none (some c) → _≡_ {A = ℕ} 0 1
-    zero-one e = cc
+opened-holds w h m p o q = ap (λ (s : State). holds s q) (opens w h m p (o .accepted) .state) ∙ reset-holds w h (length m) q
 
 -- ---- a register's bit
 
@@ -92,3 +89,62 @@ puts-pokes y a k v e =
       put = z .put;
     })
     (λ t. absurd-put none v refl (simp t at e))
+
+-- ---- what was put last, in 01's words, and back
+
+module _ (x : World) (l : List Access) where
+  pub bit-stored : (q : Spot) (v : Bool) → PutLast after (bitPut q) x l (some v) → BitStored x l q v
+  bit-stored q v f =
+      let b : runs after x (f .before) ≡ run x (f .before) = run-runs x (f .before) in
+      let z = put-is (run x (f .before)) (f .by) q v (subst (λ (y : World). bitPut q y (f .by) ≡ some (some v)) b (f .put)) in
+      record {
+        before = f .before;
+        by = f .by;
+        rest = f .rest;
+        split = f .split;
+        moved = z .moved;
+        value = z .value;
+        silent = subst (λ (y : World). lastPut after (bitPut q) (after y (f .by)) (f .rest) ≡ none) b (f .silent);
+      }
+
+  pub stored-bit : (q : Spot) (v : Bool) → BitStored x l q v → PutLast after (bitPut q) x l (some v)
+  stored-bit q v f =
+      let b : run x (f .before) ≡ runs after x (f .before) = sym (run-runs x (f .before)) in
+      record {
+        before = f .before;
+        by = f .by;
+        rest = f .rest;
+        split = f .split;
+        put = subst (λ (y : World). bitPut q y (f .by) ≡ some (some v)) b (simp (f .moved) (ap (λ (u : Bool). some (some u)) (sym (f .value))));
+        silent = subst (λ (y : World). lastPut after (bitPut q) (after y (f .by)) (f .rest) ≡ none) b (f .silent);
+      }
+
+  pub byte-stored : (k v : ℕ) → PutLast after (bytePut k) x l v → ByteStored x l k v
+  byte-stored k v f =
+      let b : runs after x (f .before) ≡ run x (f .before) = run-runs x (f .before) in
+      let z = puts-pokes (run x (f .before)) (f .by) k v (subst (λ (y : World). bytePut k y (f .by) ≡ some v) b (f .put)) in
+      record {
+        before = f .before;
+        by = f .by;
+        rest = f .rest;
+        split = f .split;
+        accepted = z .accepted;
+        write = z .write;
+        window = z .window;
+        through = z .through;
+        put = z .put;
+        silent = subst (λ (y : World). lastPut after (bytePut k) (after y (f .by)) (f .rest) ≡ none) b (f .silent);
+      }
+
+  pub stored-byte : (k v : ℕ) → ByteStored x l k v → PutLast after (bytePut k) x l v
+  unfolding bytePut windowPut accepted reachAt
+  stored-byte k v f =
+      let b : run x (f .before) ≡ runs after x (f .before) = sym (run-runs x (f .before)) in
+      record {
+        before = f .before;
+        by = f .by;
+        rest = f .rest;
+        split = f .split;
+        put = subst (λ (y : World). bytePut k y (f .by) ≡ some v) b (simp (eq-eqb _ 0 (f .accepted), f .write, f .through) (f .put));
+        silent = subst (λ (y : World). lastPut after (bytePut k) (after y (f .by)) (f .rest) ≡ none) b (f .silent);
+      }

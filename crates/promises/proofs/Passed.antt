@@ -22,7 +22,7 @@ use Rattle.chip.specs.Place.{placeOf}
 use Rattle.chip.specs.Port.{portAt}
 use Rattle.chip.specs.Refusal.{Line, line, firstOf, isWrite, portOf}
 use Rattle.chip.specs.Trace.{World}
-use Rattle.promises.specs.Places.{Leads, address, palette, indexed, region, one, two, header, blank}
+use Rattle.promises.specs.Places.{isNowhere, Leads, address, palette, indexed, region, one, two, header, blank}
 use Rattle.promises.specs.Refusals.{Lent, Asked, Found, Directed, Served}
 use Rattle.promises.proofs.Places.{leads-place, place-leads}
 
@@ -143,18 +143,9 @@ of-served c f = simp (ne-eqb (c % 4) 3 (f .swap), f .unpacked, f .no-svga, f .no
 
 -- ---- the place's lines
 
-is-nowhere : Place → Bool
-is-nowhere (Register i) = false
-is-nowhere Address = false
-is-nowhere PaletteData = false
-is-nowhere (Window i) = false
-is-nowhere Blank = false
-is-nowhere Nowhere = true
-
 module _ (s : State) (a : Access) where
   -- what leads somewhere does not lead nowhere
-  somewhere : (p : Place) → Leads s a p → is-nowhere p ≡ false
-  unfolding is-nowhere
+  somewhere : (p : Place) → Leads s a p → isNowhere p ≡ false
   somewhere p (address t o) = refl
   somewhere p (palette t o k) = refl
   somewhere p (indexed t o k i r) = refl
@@ -164,24 +155,29 @@ module _ (s : State) (a : Access) where
   somewhere p (header t o i r) = refl
   somewhere p (blank t o n) = refl
 
-  not-nowhere : (p : Place) → is-nowhere p ≡ false → p ≡ Nowhere → ⊥
-  unfolding is-nowhere
-  not-nowhere p e q = clash (is-nowhere p) (ap is-nowhere q) e
-
   -- 5
+  here : (p : Place) → portAt s a p .present ≡ true → isNowhere p ≡ false
+  unfolding portAt
+  here (Register i) t = refl
+  here Address t = refl
+  here PaletteData t = refl
+  here (Window i) t = refl
+  here Blank t = refl
+  here Nowhere t = sym t
+
   found-of : portOf s a .present ≡ true → Found s a
   unfolding portOf portAt reachesMemory span
   found-of t =
       record {
         place = placeOf s a;
-        leads = place-leads s a (placeOf s a) (λ q. clash false (subst (λ (p : Place). portAt s a p .present ≡ true) q t) refl) refl;
+        leads = place-leads s a (placeOf s a) (here (placeOf s a) t) refl;
         fitted = λ i q.
             let z = leb-true (a .offset + 4) (s .fitted) (subst (λ (p : Place). portAt s a p .present ≡ true) q t) in
             omega (arith, z);
       }
 
-  present-at : (p : Place) → is-nowhere p ≡ false → ((i : ℕ) → p ≡ Window i → a .offset + 3 < s .fitted) → portAt s a p .present ≡ true
-  unfolding portAt reachesMemory span is-nowhere
+  present-at : (p : Place) → isNowhere p ≡ false → ((i : ℕ) → p ≡ Window i → a .offset + 3 < s .fitted) → portAt s a p .present ≡ true
+  unfolding portAt reachesMemory span
   present-at (Register i) n f = refl
   present-at Address n f = refl
   present-at PaletteData n f = refl
@@ -212,9 +208,9 @@ module _ (s : State) (a : Access) where
       }
 
   directed-at : Directed s a → (p : Place) → placeOf s a ≡ p → directed p ≡ true
-  unfolding portAt is-nowhere
+  unfolding portAt
   directed-at f (Register i) e =
-      let d = place-leads s a (Register i) (not-nowhere (Register i) refl) e in
+      let d = place-leads s a (Register i) refl e in
       byTest (isWrite a) (λ w. simp w (f .writes i d (is-write a w))) (λ w. simp w (f .reads i d (is-read a w)))
   directed-at f Address e = pick-same (isWrite a) true
   directed-at f PaletteData e = pick-same (isWrite a) true
@@ -231,11 +227,11 @@ module _ (s : State) (a : Access) where
 
   -- 7
   served-at : ((i : ℕ) → Leads s a (Window i) → Served (getD (s .values) i 0)) → (p : Place) → placeOf s a ≡ p → portAt s a p .served ≡ true
-  unfolding portAt is-nowhere
+  unfolding portAt
   served-at f (Register i) e = refl
   served-at f Address e = refl
   served-at f PaletteData e = refl
-  served-at f (Window i) e = of-served (getD (s .values) i 0) (f i (place-leads s a (Window i) (not-nowhere (Window i) refl) e))
+  served-at f (Window i) e = of-served (getD (s .values) i 0) (f i (place-leads s a (Window i) refl e))
   served-at f Blank e = refl
   served-at f Nowhere e = refl
 

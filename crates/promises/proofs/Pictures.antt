@@ -11,11 +11,11 @@ use Rattle.chip.specs.declared.State.{State}
 use Rattle.chip.specs.declared.Access.{Access}
 use Rattle.chip.specs.State.{resetState}
 use Rattle.chip.specs.Picture.{wordOf, chosen, redrawn, diffs, drawn}
-use Rattle.chip.specs.Step.{Outcome, refused, settled, doneBy, givenBy, stepOf, blankWord}
+use Rattle.chip.specs.Step.{Outcome, refused, settled, doneBy, givenBy, stepOf, blankWord, openOf}
 use Rattle.chip.specs.Trace.{World, opened, step, after, run}
 use Rattle.chip.proofs.Computed.{computed}
 use Rattle.chip.proofs.Redraw.{redrawn-at, redraws, drawn-one, diffs-self}
-use Rattle.promises.specs.Good.{statusAt, Openable}
+use Rattle.promises.specs.Good.{statusAt}
 use Rattle.promises.proofs.Worlds.{sizes-kept, opens}
 
 -- the picture is the one that the rules draw
@@ -58,7 +58,7 @@ reset-word : (w h f : ℕ) (m : List ℕ) (i : ℕ) → wordOf (resetState w h f
 unfolding computed
 reset-word w h f m i = refl
 
-pub opened-right : (w h : ℕ) (m p : List ℕ) → Openable w h m p → Right (opened w h m p)
+pub opened-right : (w h : ℕ) (m p : List ℕ) → openOf w h m p .answer .status ≡ 0 → Right (opened w h m p)
 unfolding drawn resetState
 opened-right w h m p o =
     let f = opens w h m p o in

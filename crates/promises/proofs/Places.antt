@@ -1,7 +1,7 @@
 -- A place is where 01 says that an access leads, both ways.
 -- A row is found by its offset: the first at it is the only one, by one computed test for each part of the bank; then by the choices of a place. Assumes nothing.
 use Prim.Native.Nat.{ℕ, _+_, _-_, _<_}
-use mathlib.Core.Bool.{Bool, true, not, _&&_}
+use mathlib.Core.Bool.{Bool, true, false, not, _&&_}
 use mathlib.Core.List.{List, [], _∷_}
 use mathlib.Core.Logic.{inl, inr}
 use mathlib.Core.Path.{_≡_, refl, sym, ap, _∙_, subst}
@@ -24,7 +24,7 @@ use Rattle.chip.specs.Bank.{bankCount, regionCount, headerCount, headerFirst, i
 use Rattle.chip.specs.Dac.{addressKnown}
 use Rattle.chip.specs.Place.{dataPlace, indexedPlace, regionPlace, headerPlace, placeAt, placeOf}
 use Rattle.chip.proofs.Computed.{computed}
-use Rattle.promises.specs.Places.{RowAt, Leads, address, palette, indexed, region, one, two, header, blank}
+use Rattle.promises.specs.Places.{isNowhere, RowAt, Leads, address, palette, indexed, region, one, two, header, blank}
 
 -- ---- a part of the bank: rows, the first one's number, and how many
 
@@ -156,11 +156,11 @@ module _ (s : State) (a : Access) where
   -- ---- and back: a place that there is
 
   abbrev Led : Place → Type 0
-  Led p = (p ≡ Nowhere → ⊥) → Leads s a p
+  Led p = isNowhere p ≡ false → Leads s a p
 
   -- what stands nowhere needs no word
   nowhere : Led Nowhere
-  nowhere n = absurd (n refl)
+  nowhere n = clash true refl n
 
   data-led : a .target ≡ 0 → a .offset ≡ 0x4008 → Led (dataPlace (s .dac))
   unfolding dataPlace addressKnown
@@ -203,5 +203,5 @@ module _ (s : State) (a : Access) where
       pick-when Led (eqb (a .target) 2) _ _ (λ t n. two (eqb-true _ 2 t)) (λ t.
       pick-when Led (eqb (a .target) 3) _ Nowhere (λ t. header-led (eqb-true _ 3 t)) (λ t. nowhere))))
 
-  pub place-leads : (p : Place) → (p ≡ Nowhere → ⊥) → placeOf s a ≡ p → Leads s a p
+  pub place-leads : (p : Place) → isNowhere p ≡ false → placeOf s a ≡ p → Leads s a p
   place-leads p n e = subst Led e led n

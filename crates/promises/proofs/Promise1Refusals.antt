@@ -12,15 +12,20 @@ use lib.ListN.{getD, length, replicate}
 use Rattle.bits.specs.Choose.{pick}
 use Rattle.bits.proofs.Cases.{byTest}
 use Rattle.bits.proofs.Bools.{clash}
+use Rattle.chip.specs.declared.State.{State}
 use Rattle.chip.specs.declared.Access.{Access}
+use Rattle.chip.specs.declared.Place.{Place}
+use Rattle.chip.specs.Place.{placeOf}
 use Rattle.chip.specs.State.{resetState}
 use Rattle.chip.specs.Sound.{panelOk, memoryOk, isState}
 use Rattle.chip.specs.Refusal.{line, firstOf, isWrite, portOf, laterLines, accessLines, statusOf, openingLines, openingStatus}
 use Rattle.chip.specs.Step.{Outcome, Opening, answered, refused, settled, doneBy, givenBy, stepOf, blankWord, openOf}
 use Rattle.chip.specs.Trace.{World, opened, step}
 use Rattle.promises.specs.Good.{statusAt}
+use Rattle.promises.specs.Places.{isNowhere, Leads}
 use Rattle.promises.specs.Refusals.{Words, Passes, state, lent, asked, aligned, found, directed, served, Fails, Panel, Memory, OpeningHas}
-use Rattle.promises.proofs.Passed.{lines, first-is, is-first, none-is, is-none, at-most, lent-test, asked-test, aligned-test, found-test, directed-test, served-test}
+use Rattle.promises.proofs.Passed.{lines, first-is, is-first, none-is, is-none, at-most, lent-test, asked-test, aligned-test, found-test, directed-test, served-test, is-write, write-is}
+use Rattle.promises.proofs.Places.{leads-place, place-leads}
 use Rattle.promises.proofs.Promise1State.{panel-of, of-panel, memory-of, of-memory, state-means}
 use Rattle.promises.proofs.Sane.{sane}
 
@@ -30,6 +35,14 @@ use Rattle.promises.proofs.Sane.{sane}
 pub access-status : (x : World) (a : Access) → step x a .answer .status ≡ statusAt x a
 unfolding stepOf givenBy doneBy settled refused
 access-status x a = byTest (eqb (statusAt x a) 0) (λ q. simp q (sym (eqb-true (statusAt x a) 0 q))) (λ q. simp q)
+
+-- 0 is a read, anything else a write
+pub write-means : (a : Access) → (isWrite a ≡ true) ↔ (a .write ≡ 0 → ⊥)
+write-means a = (is-write a, write-is a)
+
+-- a place of the definitions, other than nowhere, is where 01 says that the access leads
+pub place-means : (s : State) (a : Access) (p : Place) → isNowhere p ≡ false → (placeOf s a ≡ p) ↔ Leads s a p
+place-means s a p n = (place-leads s a p n, leads-place s a p)
 
 -- the tests of the table's lines
 tests : World → Access → List Bool

@@ -6,12 +6,13 @@ use mathlib.Core.List.{List}
 use mathlib.Core.Path.{_≡_}
 use Rattle.chip.specs.declared.Access.{Access}
 use Rattle.chip.specs.Sound.{isState}
+use Rattle.chip.specs.Step.{openOf}
 use Rattle.chip.specs.Trace.{World, opened, after, run}
-use Rattle.promises.specs.Good.{Good, Openable}
-use Rattle.promises.proofs.Worlds.{Fresh, opens, good-kept, good-along, opened-good}
+use Rattle.promises.specs.Good.{Fresh, Good, Openable}
+use Rattle.promises.proofs.Worlds.{opens, good-kept, good-along, opened-good}
 
 -- what an opening leaves: status 0, the reset state, memory as lent, 03000000h at every dot
-pub opening-gives : (w h : ℕ) (m p : List ℕ) → Openable w h m p → Fresh w h m p
+pub opening-gives : (w h : ℕ) (m p : List ℕ) → openOf w h m p .answer .status ≡ 0 → Fresh w h m p
 opening-gives = opens
 
 -- it is a state, with memory and picture of its sizes

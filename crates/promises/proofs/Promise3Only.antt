@@ -1,6 +1,6 @@
--- Promise 3. An access alters only what it may; a word is zero where it is not known, and shows nothing in lanes that are not enabled; a write answers 0 and 0.
+-- Promise 3. What an access alters, and that it alters nothing else; a word is zero where it is not known, and shows nothing in lanes that are not enabled; a write answers 0 and 0.
 -- From the laws of Only and Answers. Assumes nothing.
-use Prim.Native.Nat.{ℕ, _+_, _*_, _/_, _<_}
+use Prim.Native.Nat.{ℕ, _+_, _*_, _/_, _≤_, _<_}
 use mathlib.Core.Bool.{Bool, true, false, not, _&&_, _||_}
 use mathlib.Core.Option.{Option, none, some, Option·getD}
 use mathlib.Core.Path.{_≡_, refl, ap, _∙_}
@@ -16,15 +16,17 @@ use Rattle.chip.specs.Palette.{entryCount, entryOf}
 use Rattle.chip.specs.Refusal.{isWrite}
 use Rattle.chip.proofs.Computed.{computed}
 use Rattle.chip.specs.Trace.{World, step, after}
-use Rattle.promises.specs.Good.{Good}
+use Rattle.promises.specs.Good.{Sizes, Good, statusAt}
 use Rattle.promises.specs.History.{Spot, spot, Real, holds, isData, isAim}
 use Rattle.promises.specs.Frame.{bitMoves, writesRow, moves, broughtBit, fixes, SameBit, Aimed, Advanced, completes, madeColour, bytePut}
 use Rattle.promises.specs.Loads.{disturbs}
-use Rattle.promises.specs.View.{LeavesRest}
-use Rattle.promises.proofs.Worlds.{Sizes, sizes-kept}
+use Rattle.promises.specs.Refusals.{Words}
+use Rattle.promises.specs.View.{LeavesRest, Idle}
+use Rattle.promises.proofs.Worlds.{sizes-kept}
 use Rattle.promises.proofs.Moves.{bit-step, same-bit, flag-step}
 use Rattle.promises.proofs.MemoryBytes.{byte-step, same-byte}
 use Rattle.promises.proofs.Only.{entry-after, aim-after, data-after, calm-after}
+use Rattle.promises.proofs.Lane0.{idle}
 use Rattle.promises.proofs.Answers.{unknown-zero, lane-off, write-answers, read-leaves}
 
 -- the subsystem numbers are a row of 32 bits, none of which a one clears
@@ -98,6 +100,10 @@ module _ (x : World) (a : Access) (g : Good x) where
   -- no other access alters the address, the component or what is staged
   pub pointer-stays : disturbs x a ≡ false → after x a .state .dac ≡ x .state .dac
   pointer-stays = calm-after x a
+
+-- without lane 0 a RAMDAC access (region 0 from 4000h on) that is not refused alters nothing, and answers word 0 and known 0
+pub without-lane-0 : (x : World) (a : Access) → Good x → Words (x .state) → a .target ≡ 0 → 0x4000 ≤ a .offset → statusAt x a ≡ 0 → bit 0 (a .enables) ≡ false → Idle x a
+without-lane-0 x a g k t f d l = idle x a k t f d l g
 
 -- no access changes the panel or the memory's length
 pub sizes-stay : (x : World) (a : Access) → Sizes (x .state) (after x a .state)

@@ -6,7 +6,7 @@ use mathlib.Core.Bool.{Bool, false}
 use mathlib.Core.List.{List, []}
 use mathlib.Core.Logic.{_↔_, _⊎_, inl, inr}
 use mathlib.Core.Option.{Option, none, some, Option·getD}
-use mathlib.Core.Path.{_≡_, refl, sym, ap, _∙_, subst}
+use mathlib.Core.Path.{_≡_, refl, sym, ap, _∙_}
 use native.Mathlib.Omega.{arith}
 use lib.ListN.{getD, length, replicate}
 use Rattle.bits.specs.Choose.{pick}
@@ -20,23 +20,22 @@ use Rattle.chip.specs.Palette.{entryCount, emptyPalette, entryOf}
 use Rattle.chip.specs.Dac.{resetDac}
 use Rattle.chip.specs.State.{resetState}
 use Rattle.chip.specs.Place.{placeOf}
-use Rattle.chip.specs.Port.{wide}
 use Rattle.chip.specs.Trace.{World, opened, step, after, run}
 use Rattle.promises.specs.Good.{Good, Openable}
 use Rattle.promises.specs.Along.{runs, lastPut, PutLast, PutNever}
-use Rattle.promises.specs.History.{seenBit, shows, partBit, Spot, spot, Real, holds, stated, aimPut}
+use Rattle.promises.specs.History.{Accepted, seenBit, shows, partBit, Spot, spot, Real, holds, stated, aimPut}
 use Rattle.promises.specs.Frame.{laneAt, bytePut}
-use Rattle.promises.specs.Origin.{bitPut, latest, BitStored, BitStated, ByteStored, ByteLent, AddressSet, AddressAt}
+use Rattle.promises.specs.Origin.{SetBy, bitPut, latest, BitStored, BitStated, ByteStored, ByteLent, AddressSet, AddressAt}
 use Rattle.promises.specs.Loads.{NoLoad, Loaded}
-use Rattle.promises.proofs.Along.{read-along, whence}
+use Rattle.promises.proofs.Along.{read-along, exactly}
 use Rattle.promises.proofs.Worlds.{good-kept, good-along, opened-good, opens, memory-length}
 use Rattle.promises.proofs.Sites.{row-there, indexed-there}
 use Rattle.promises.proofs.MemoryBytes.{byte-step}
 use Rattle.promises.proofs.Moves.{bit-step}
-use Rattle.promises.proofs.Shown.{Accepted, found, shows-register, shows-blank, shows-address, shows-palette, shows-memory}
-use Rattle.promises.proofs.Address.{run-runs, SetBy, set-or-not, set-at, never-set}
+use Rattle.promises.proofs.Shown.{found, shows-register, shows-blank, shows-address, shows-palette, shows-memory}
+use Rattle.promises.proofs.Address.{run-runs, set-or-not, set-at, never-set}
 use Rattle.promises.proofs.Loads.{loaded, of-loaded, never-loaded, of-unloaded}
-use Rattle.promises.proofs.Origins.{opened-holds, put-is, puts-pokes}
+use Rattle.promises.proofs.Origins.{opened-holds, bit-stored, stored-bit, byte-stored, stored-byte}
 
 -- an empty palette has no entry
 zeros-at : (n k : ℕ) → _≡_ {A = ℕ} (getD (replicate n 0) k 0) 0
@@ -61,14 +60,14 @@ module _ (w h : ℕ) (m p : List ℕ) (o : Openable w h m p) (l : List Access) w
   long-kept k x a hk = omega (arith, memory-length x a)
 
   opened-long : (k : ℕ) → k < length m → Long k (opened w h m p)
-  opened-long k hk = omega (arith, ap length (opens w h m p o .memory))
+  opened-long k hk = omega (arith, ap length (opens w h m p (o .accepted) .memory))
 
   opened-entry : (e : ℕ) → entryOf (opened w h m p .state .palette) e ≡ none
-  opened-entry e = ap (λ (s : State). entryOf (s .palette) e) (opens w h m p o .state) ∙ reset-entry w h (length m) e
+  opened-entry e = ap (λ (s : State). entryOf (s .palette) e) (opens w h m p (o .accepted) .state) ∙ reset-entry w h (length m) e
 
   opened-stage : opened w h m p .state .dac .staged ≡ 0
   unfolding resetState resetDac
-  opened-stage = ap (λ (s : State). s .dac .staged) (opens w h m p o .state)
+  opened-stage = ap (λ (s : State). s .dac .staged) (opens w h m p (o .accepted) .state)
 
   -- ---- registers
 
@@ -79,31 +78,25 @@ module _ (w h : ℕ) (m p : List ℕ) (o : Openable w h m p) (l : List Access) w
       ∙ read-along after (bitPut q) (λ (x : World). holds (x .state) q) Good good-kept (bit-step q r) (opened w h m p) l (opened-good w h m p o)
       ∙ ap (Option·getD (lastPut after (bitPut q) (opened w h m p) l)) (opened-holds w h m p o q)
 
-  -- where a bit is known, an accepted write of the list stored it last, or none did and the tables state it
-  pub bit-origin : (q : Spot) → Real q → (v : Bool) → holds (run (opened w h m p) l .state) q ≡ some v
-      → BitStored (opened w h m p) l q v ⊎ BitStated (opened w h m p) l q v
-  bit-origin q r v e = go (whence after (bitPut q) (λ (x : World). holds (x .state) q) Good good-kept (bit-step q r) (opened w h m p) l (opened-good w h m p o))
+  -- a bit is known as v exactly where an accepted write of the list stored v last, or none stored it and the tables state v
+  pub bit-exactly : (q : Spot) → Real q → (v : Bool) → (holds (run (opened w h m p) l .state) q ≡ some v) ↔ (BitStored (opened w h m p) l q v ⊎ BitStated (opened w h m p) l q v)
+  bit-exactly q r v = ((λ e. go (z .0 (same ∙ e))), (λ f. sym same ∙ z .1 (back f)))
     where
-      final : holds (runs after (opened w h m p) l .state) q ≡ some v
-      final = ap (λ (x : World). holds (x .state) q) (run-runs (opened w h m p) l) ∙ e
+      same : holds (runs after (opened w h m p) l .state) q ≡ holds (run (opened w h m p) l .state) q
+      same = ap (λ (x : World). holds (x .state) q) (run-runs (opened w h m p) l)
 
-      go : PutLast after (bitPut q) (opened w h m p) l (holds (runs after (opened w h m p) l .state) q)
-          ⊎ PutNever after (bitPut q) (opened w h m p) l (holds (opened w h m p .state) q) (holds (runs after (opened w h m p) l .state) q)
+      z : (holds (runs after (opened w h m p) l .state) q ≡ some v) ↔ (PutLast after (bitPut q) (opened w h m p) l (some v) ⊎ PutNever after (bitPut q) (opened w h m p) l (holds (opened w h m p .state) q) (some v))
+      z = exactly after (bitPut q) (λ (x : World). holds (x .state) q) Good good-kept (bit-step q r) (opened w h m p) l (opened-good w h m p o) (some v)
+
+      go : PutLast after (bitPut q) (opened w h m p) l (some v) ⊎ PutNever after (bitPut q) (opened w h m p) l (holds (opened w h m p .state) q) (some v)
           → BitStored (opened w h m p) l q v ⊎ BitStated (opened w h m p) l q v
-      go (inl f) =
-          let b : runs after (opened w h m p) (f .before) ≡ run (opened w h m p) (f .before) = run-runs (opened w h m p) (f .before) in
-          let z = put-is (run (opened w h m p) (f .before)) (f .by) q v
-          (subst (λ (y : World). bitPut q y (f .by) ≡ some (some v)) b (f .put ∙ ap some final)) in
-          inl (record {
-            before = f .before;
-            by = f .by;
-            rest = f .rest;
-            split = f .split;
-            moved = z .moved;
-            value = z .value;
-            silent = subst (λ (y : World). lastPut after (bitPut q) (after y (f .by)) (f .rest) ≡ none) b (f .silent);
-          })
-      go (inr n) = inr (record { silent = n .silent; value = sym (opened-holds w h m p o q) ∙ sym (n .same) ∙ final })
+      go (inl f) = inl (bit-stored (opened w h m p) l q v f)
+      go (inr n) = inr (record { silent = n .silent; value = sym (opened-holds w h m p o q) ∙ sym (n .same) })
+
+      back : BitStored (opened w h m p) l q v ⊎ BitStated (opened w h m p) l q v
+          → PutLast after (bitPut q) (opened w h m p) l (some v) ⊎ PutNever after (bitPut q) (opened w h m p) l (holds (opened w h m p .state) q) (some v)
+      back (inl f) = inl (stored-bit (opened w h m p) l q v f)
+      back (inr n) = inr (record { silent = n .silent; same = sym (n .value) ∙ sym (opened-holds w h m p o q) })
 
   -- ---- memory
 
@@ -112,38 +105,27 @@ module _ (w h : ℕ) (m p : List ℕ) (o : Openable w h m p) (l : List Access) w
   byte-held k hk =
       ap (λ (x : World). getD (x .memory) k 0) (sym (run-runs (opened w h m p) l))
       ∙ read-along after (bytePut k) (λ (x : World). getD (x .memory) k 0) (Long k) (long-kept k) (byte-step k) (opened w h m p) l (opened-long k hk)
-      ∙ ap (Option·getD (lastPut after (bytePut k) (opened w h m p) l)) (ap (λ (n : List ℕ). getD n k 0) (opens w h m p o .memory))
+      ∙ ap (Option·getD (lastPut after (bytePut k) (opened w h m p) l)) (ap (λ (n : List ℕ). getD n k 0) (opens w h m p (o .accepted) .memory))
 
-  pub byte-origin : (k : ℕ) → k < length m
-      → ByteStored (opened w h m p) l k (getD (run (opened w h m p) l .memory) k 0)
-      ⊎ ByteLent (opened w h m p) l k (getD (run (opened w h m p) l .memory) k 0)
-  byte-origin k hk =
-      go (whence after (bytePut k) (λ (x : World). getD (x .memory) k 0) (Long k) (long-kept k) (byte-step k) (opened w h m p) l (opened-long k hk))
+  -- it holds v exactly where an accepted write of the list stored v last, or none stored the byte and it was lent as v
+  pub byte-exactly : (k : ℕ) → k < length m → (v : ℕ) → (getD (run (opened w h m p) l .memory) k 0 ≡ v) ↔ (ByteStored (opened w h m p) l k v ⊎ ByteLent (opened w h m p) l k v)
+  byte-exactly k hk v = ((λ e. go (z .0 (same ∙ e))), (λ f. sym same ∙ z .1 (back f)))
     where
       same : getD (runs after (opened w h m p) l .memory) k 0 ≡ getD (run (opened w h m p) l .memory) k 0
       same = ap (λ (x : World). getD (x .memory) k 0) (run-runs (opened w h m p) l)
 
-      go : PutLast after (bytePut k) (opened w h m p) l (getD (runs after (opened w h m p) l .memory) k 0)
-          ⊎ PutNever after (bytePut k) (opened w h m p) l (getD (opened w h m p .memory) k 0) (getD (runs after (opened w h m p) l .memory) k 0)
-          → ByteStored (opened w h m p) l k (getD (run (opened w h m p) l .memory) k 0)
-          ⊎ ByteLent (opened w h m p) l k (getD (run (opened w h m p) l .memory) k 0)
-      go (inl f) =
-          let b : runs after (opened w h m p) (f .before) ≡ run (opened w h m p) (f .before) = run-runs (opened w h m p) (f .before) in
-          let z = puts-pokes (run (opened w h m p) (f .before)) (f .by) k (getD (run (opened w h m p) l .memory) k 0)
-          (subst (λ (y : World). bytePut k y (f .by) ≡ some (getD (run (opened w h m p) l .memory) k 0)) b (f .put ∙ ap some same)) in
-          inl (record {
-            before = f .before;
-            by = f .by;
-            rest = f .rest;
-            split = f .split;
-            accepted = z .accepted;
-            write = z .write;
-            window = z .window;
-            through = z .through;
-            put = z .put;
-            silent = subst (λ (y : World). lastPut after (bytePut k) (after y (f .by)) (f .rest) ≡ none) b (f .silent);
-          })
-      go (inr n) = inr (record { silent = n .silent; value = sym (n .same) ∙ same })
+      z : (getD (runs after (opened w h m p) l .memory) k 0 ≡ v) ↔ (PutLast after (bytePut k) (opened w h m p) l v ⊎ PutNever after (bytePut k) (opened w h m p) l (getD (opened w h m p .memory) k 0) v)
+      z = exactly after (bytePut k) (λ (x : World). getD (x .memory) k 0) (Long k) (long-kept k) (byte-step k) (opened w h m p) l (opened-long k hk) v
+
+      go : PutLast after (bytePut k) (opened w h m p) l v ⊎ PutNever after (bytePut k) (opened w h m p) l (getD (opened w h m p .memory) k 0) v
+          → ByteStored (opened w h m p) l k v ⊎ ByteLent (opened w h m p) l k v
+      go (inl f) = inl (byte-stored (opened w h m p) l k v f)
+      go (inr n) = inr (record { silent = n .silent; value = sym (n .same) })
+
+      back : ByteStored (opened w h m p) l k v ⊎ ByteLent (opened w h m p) l k v
+          → PutLast after (bytePut k) (opened w h m p) l v ⊎ PutNever after (bytePut k) (opened w h m p) l (getD (opened w h m p .memory) k 0) v
+      back (inl f) = inl (stored-byte (opened w h m p) l k v f)
+      back (inr n) = inr (record { silent = n .silent; same = sym (n .value) })
 
   -- ---- the palette's address
 
@@ -213,7 +195,7 @@ module _ (w h : ℕ) (m p : List ℕ) (o : Openable w h m p) (l : List Access) w
     pub palette-read : placeOf (run (opened w h m p) l .state) a ≡ PaletteData
         → shows (step (run (opened w h m p) l) a .answer) b
         ≡ pick (bit (b / 8) (a .enables))
-        (partBit (wide (run (opened w h m p) l .state)) (run (opened w h m p) l .state .dac .component) b
+        (partBit (run (opened w h m p) l .state) (run (opened w h m p) l .state .dac .component) b
         (entryOf (run (opened w h m p) l .state .palette) (run (opened w h m p) l .state .dac .address))) none
     palette-read e = shows-palette (run (opened w h m p) l) a b q hb e
 

@@ -1,18 +1,75 @@
--- Promise 5, demand 3 on the definitions. After an opening and any list of accesses, refused ones among them, the picture equals the picture drawn
--- afresh, and each changed count is the number of dots that differ. From the laws of Pictures. Assumes nothing.
-use Prim.Native.Nat.{ℕ}
+-- Promise 5, demand 3 on the definitions. After an opening and any list of accesses, refused ones among them, the picture equals the picture drawn afresh, each
+-- dot's word is the one of 01's rules, and each changed count is the number of dots that differ. From the laws of Pictures and Dots; a stored colour is of bytes
+-- because each was written as a byte. Assumes nothing.
+use Prim.Native.Nat.{ℕ, zero, suc, _+_, _*_, _<_}
 use mathlib.Core.List.{List}
-use mathlib.Core.Path.{_≡_}
+use mathlib.Core.Path.{_≡_, sym, ap, _∙_, subst}
+use native.Mathlib.Nat.{le-of-suc-le-suc}
+use native.Mathlib.Omega.{arith}
+use lib.ListN.{getD, length}
+use Rattle.bits.specs.Word.{laneByte}
+use Rattle.bits.proofs.Cases.{pick-by}
+use Rattle.bits.proofs.Lanes.{lane-lt}
+use Rattle.chip.specs.declared.State.{State}
 use Rattle.chip.specs.declared.Access.{Access}
-use Rattle.chip.specs.Picture.{diffs, drawn}
+use Rattle.chip.specs.Step.{openOf}
+use Rattle.chip.specs.Picture.{diffs, drawnFrom, drawn, wordOf}
 use Rattle.chip.specs.Trace.{World, opened, step, after, run}
 use Rattle.promises.specs.Good.{Openable}
+use Rattle.promises.specs.Width.{eightBits, storedByte}
+use Rattle.promises.specs.Dots.{ByteColours, Ruled}
+use Rattle.promises.proofs.Worlds.{memory-length, picture-length}
 use Rattle.promises.proofs.Pictures.{right-along, opened-right, counted}
+use Rattle.promises.proofs.Dots.{rules}
+use Rattle.promises.proofs.Promise4Origins.{entry-exactly}
 
-pub picture-right : (w h : ℕ) (m p : List ℕ) → Openable w h m p → (l : List Access)
+pub picture-right : (w h : ℕ) (m p : List ℕ) → openOf w h m p .answer .status ≡ 0 → (l : List Access)
     → run (opened w h m p) l .picture ≡ drawn (run (opened w h m p) l .state) (run (opened w h m p) l .memory)
 picture-right w h m p o l = right-along (opened w h m p) l (opened-right w h m p o)
 
 -- of any access at all, on any world
 pub count-right : (x : World) (a : Access) → step x a .answer .changed ≡ diffs (x .picture) (after x a .picture)
 count-right = counted
+
+-- memory and picture keep their lengths
+pub lengths-stay : (x : World) (a : Access) → (length (after x a .memory) ≡ length (x .memory)) × (length (after x a .picture) ≡ length (x .picture))
+lengths-stay x a = (memory-length x a, picture-length x a)
+
+-- ---- each dot, by the rules
+
+-- dot i of a picture drawn afresh
+drawn-at : (f : ℕ → ℕ) (j n i : ℕ) → i < length (drawnFrom f j n) → getD (drawnFrom f j n) i 0 ≡ f (j + i)
+drawn-at f j zero i h = absurd (omega arith)
+drawn-at f j (suc n) zero h = ap f (let e : j ≡ j + 0 = omega arith in e)
+drawn-at f j (suc n) (suc i) h =
+    drawn-at f (suc j) n i (le-of-suc-le-suc h) ∙ ap f (let e : suc j + i ≡ j + suc i = omega arith in e)
+
+dot-of : (s : State) (m : List ℕ) (i : ℕ) → i < length (drawn s m) → getD (drawn s m) i 0 ≡ wordOf s m i
+unfolding drawn
+dot-of s m i h = drawn-at (wordOf s m) 0 (s .width * s .height) i h ∙ ap (wordOf s m) (let e : 0 + i ≡ i = omega arith in e)
+
+stored-lt : (s : State) (w : ℕ) → storedByte s (laneByte 0 w) < 256
+unfolding storedByte
+stored-lt s w = pick-by (λ (k : ℕ). k < 256) (eightBits s) _ _ (lane-lt 0 w) (omega arith)
+
+module _ (w h : ℕ) (m p : List ℕ) (o : Openable w h m p) (l : List Access) where
+  abbrev x : World
+  x = run (opened w h m p) l
+
+  -- what is stored are bytes
+  pub byte-colours : ByteColours (x .state .palette)
+  byte-colours e he c f =
+      let y = entry-exactly w h m p o l e he c .0 f .load in
+      record {
+        red = subst (λ (k : ℕ). k < 256) (sym (y .first .value)) (stored-lt _ _);
+        green = subst (λ (k : ℕ). k < 256) (sym (y .second .value)) (stored-lt _ _);
+        blue = subst (λ (k : ℕ). k < 256) (sym (y .third .value)) (stored-lt _ _);
+      }
+
+  -- the word of each dot is 01's
+  pub dot-ruled : (i : ℕ) → i < length (x .picture) → Ruled (x .state) (x .memory) i (getD (x .picture) i 0)
+  dot-ruled i hi =
+      let e = picture-right w h m p (o .accepted) l in
+      subst (Ruled (x .state) (x .memory) i)
+      (sym (ap (λ (k : List ℕ). getD k i 0) e ∙ dot-of (x .state) (x .memory) i (omega (arith, ap length e))))
+      (rules (x .state) (x .memory) i byte-colours)

@@ -1,19 +1,25 @@
 -- Promise 7. What depends on what: a dot's word on base, stride, pixel mask, bits 0 to 4 of RDColorMode, palette and memory, and on nothing else; an
--- aperture access on its own control register alone. From the laws of Depends. Assumes nothing.
+-- aperture access on its own control register alone; no access on the command register. From the laws of Depends. Assumes nothing.
 use Prim.Native.Nat.{ℕ}
 use mathlib.Core.List.{List}
-use mathlib.Core.Path.{_≡_}
+use mathlib.Core.Path.{_≡_, refl, sym, _∙_}
+use native.Mathlib.Omega.{arith}
 use Rattle.chip.specs.declared.State.{State}
 use Rattle.chip.specs.declared.Access.{Access}
-use Rattle.chip.specs.declared.Place.the-variants.{Window}
+use Rattle.chip.specs.declared.Place.the-variants.{Register, Window}
+use Rattle.chip.specs.Bank.{headerFirst, indirectFirst}
 use Rattle.chip.specs.Place.{placeOf}
 use Rattle.chip.specs.View.{viewOf, SameView}
 use Rattle.chip.specs.Picture.{wordOf}
-use Rattle.chip.specs.Trace.{World}
+use Rattle.chip.specs.Trace.{World, step}
+use Rattle.chip.proofs.Computed.{computed}
 use Rattle.chip.proofs.Views.{same-view}
 use Rattle.promises.specs.Good.{Good}
-use Rattle.promises.specs.View.{SameWindow}
-use Rattle.promises.proofs.Depends.{same-word, SameAnswer, same-window}
+use Rattle.promises.specs.Places.{RowAt, Leads}
+use Rattle.promises.specs.View.{SameAnswer, SameWindow, command, ButRow}
+use Rattle.promises.proofs.Places.{place-leads}
+use Rattle.promises.proofs.Depends.{same-word, same-window, gates-none, same-elsewhere}
+use Rattle.promises.proofs.Promise1Refusals.{access-status}
 
 -- a dot's word is made of the view and of memory ..
 pub word-depends : (s n : State) (m : List ℕ) (i : ℕ) → viewOf n ≡ viewOf s → wordOf n m i ≡ wordOf s m i
@@ -26,3 +32,16 @@ view-depends = same-view
 -- two worlds that share memory and the aperture's control register give an access through it the same status, word and known mask, and leave the same memory
 pub aperture-depends : (x y : World) (a : Access) (i : ℕ) → Good x → Good y → placeOf (x .state) a ≡ Window i → SameWindow x y i → SameAnswer x y a
 aperture-depends = same-window
+
+-- the command register stands at 04h of the header ..
+pub command-there : RowAt headerFirst indirectFirst command 0x04
+unfolding computed
+command-there = record { least = omega arith; below = omega arith; offset = refl }
+
+-- .. and its enable bits gate no access, at any target: with any other word in it every access has the same status ..
+pub command-gates-nothing : (x y : World) (a : Access) → Good x → Good y → ButRow x y command → step y a .answer .status ≡ step x a .answer .status
+command-gates-nothing x y a g h b = access-status y a ∙ gates-none x y a b g h ∙ sym (access-status x a)
+
+-- .. and one that does not lead to it the same word and known mask, and it leaves the same memory
+pub command-alters-nothing : (x y : World) (a : Access) → Good x → Good y → ButRow x y command → (Leads (x .state) a (Register command) → ⊥) → SameAnswer x y a
+command-alters-nothing x y a g h b n = same-elsewhere x y a b g h (λ e. n (place-leads (x .state) a (Register command) refl e))

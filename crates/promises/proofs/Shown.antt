@@ -25,21 +25,16 @@ use Rattle.chip.specs.Aperture.{wordFrom}
 use Rattle.chip.specs.Units.{atByte}
 use Rattle.chip.specs.Place.{placeOf}
 use Rattle.chip.specs.Port.{seenPart, knownIn, wordIn, wide, portAt}
-use Rattle.chip.specs.Refusal.{isWrite, portOf, statusOf}
+use Rattle.chip.specs.Refusal.{portOf, statusOf}
 use Rattle.chip.specs.Step.{settled, seenBy, doneBy, givenBy, stepOf}
 use Rattle.chip.specs.Trace.{World, step}
 use Rattle.chip.proofs.Refusals.{unrefused}
 use Rattle.chip.proofs.Lent.{lane-read}
 use Rattle.promises.specs.Good.{Good, statusAt}
 use Rattle.promises.specs.Frame.{laneAt}
-use Rattle.promises.specs.History.{seenBit, shows, partBit, spot, holds}
+use Rattle.promises.specs.History.{Accepted, seenBit, shows, partBit, spot, holds}
+use Rattle.promises.proofs.Widths.{shown-told}
 use Rattle.promises.proofs.Pokes.{lane-told}
-
--- ---- an accepted read
-
-pub record Accepted (x : World) (a : Access) : Type 0 where
-  pub read : isWrite a ≡ false
-  pub done : statusAt x a ≡ 0
 
 -- its enables name four lanes
 pub enables-lt : (s : State) (ml pl : ℕ) (a : Access) → statusOf s ml pl a ≡ 0 → a .enables < 16
@@ -53,11 +48,11 @@ found s ml pl a e = unrefused s ml pl a e .present
 abbrev pub sees : World → Access → Seen
 sees x a = portOf (x .state) a .seen (x .memory)
 
-answer-word : (x : World) (a : Access) → Accepted x a → step x a .answer .word ≡ wordIn (sees x a) (a .enables)
+pub answer-word : (x : World) (a : Access) → Accepted x a → step x a .answer .word ≡ wordIn (sees x a) (a .enables)
 unfolding stepOf givenBy doneBy settled seenBy
 answer-word x a q = simp (eq-eqb (statusAt x a) 0 (q .done), q .read)
 
-answer-known : (x : World) (a : Access) → Accepted x a → step x a .answer .known ≡ knownIn (sees x a) (a .enables)
+pub answer-known : (x : World) (a : Access) → Accepted x a → step x a .answer .known ≡ knownIn (sees x a) (a .enables)
 unfolding stepOf givenBy doneBy settled seenBy
 answer-known x a q = simp (eq-eqb (statusAt x a) 0 (q .done), q .read)
 
@@ -134,15 +129,15 @@ module _ (x : World) (a : Access) (b : ℕ) (q : Accepted x a) (hb : b < 32) whe
   pub shows-palette : placeOf (x .state) a ≡ PaletteData
       → shows (step x a .answer) b
       ≡ pick (bit (b / 8) (a .enables))
-      (partBit (wide (x .state)) (x .state .dac .component) b (entryOf (x .state .palette) (x .state .dac .address))) none
+      (partBit (x .state) (x .state .dac .component) b (entryOf (x .state .palette) (x .state .dac .address))) none
   unfolding portAt partBit
   shows-palette e = at-place PaletteData _ e (part (entryOf (x .state .palette) (x .state .dac .address)))
     where
       part : (o : Option Colour)
           → seenBit (bit b (seenPart (wide (x .state)) (x .state .dac .component) o .known)) (bit b (seenPart (wide (x .state)) (x .state .dac .component) o .value))
-          ≡ partBit (wide (x .state)) (x .state .dac .component) b o
+          ≡ partBit (x .state) (x .state .dac .component) b o
       part none = none-part b
-      part (some c) = refl
+      part (some c) = ap (λ (v : ℕ). seenBit (bit b 0xFF) (bit b v)) (shown-told (x .state) (x .state .dac .component) c)
 
   -- memory: the bit of the byte that exchanges with the bit's lane
   pub shows-memory : Good x → (i : ℕ) → placeOf (x .state) a ≡ Window i

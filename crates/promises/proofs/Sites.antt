@@ -101,7 +101,7 @@ module _ (s : State) (a : Access) where
 
 -- ---- region 0 has no window, so where an aperture access leads does not depend on the state
 
-region-plain : (d : Dac) (o : ℕ) → reachAt (regionPlace d o) .window ≡ none
+pub region-plain : (d : Dac) (o : ℕ) → reachAt (regionPlace d o) .window ≡ none
 unfolding regionPlace dataPlace indexedPlace reachAt
 region-plain d o =
     pick-by (λ (p : Place). reachAt p .window ≡ none) (eqb o 0x4000) Address _ refl

@@ -21,6 +21,7 @@ use Rattle.chip.specs.Readings.{misread, palettes, refusals, words, pictures}
 use Rattle.chip.proofs.Computed.{computed}
 use Rattle.chip.proofs.Values.{values-computed, misread-computed, palettes-computed, refusals-computed, words-computed, pictures-computed}
 use Rattle.promises.specs.Good.{Good, Openable}
+use Rattle.promises.proofs.Promise1Refusals.{opening-status}
 use Rattle.promises.proofs.Worlds.{good-kept, good-along, opened-good}
 
 -- ---- an access on a state that is one
@@ -48,7 +49,8 @@ unfolding fits
 case-opens c t =
     record {
       accepted =
-          ap (openingStatus (c .width) (c .height) 16) (length-replicate {A = ℕ} (c .width * c .height) 0) ∙ eqb-true _ 0 t;
+          opening-status (c .width) (c .height) (replicate 16 0) (replicate (c .width * c .height) 0)
+          ∙ ap (openingStatus (c .width) (c .height) 16) (length-replicate {A = ℕ} (c .width * c .height) 0) ∙ eqb-true _ 0 t;
       bytes = zeros 16;
     }
 

@@ -33,12 +33,13 @@ use Rattle.chip.proofs.Tables.{bank-length}
 use Rattle.chip.proofs.Poked.{putAll-length}
 use Rattle.chip.proofs.Lent.{small, puts-small, stores-small}
 use Rattle.chip.proofs.Redraw.{redrawn-length}
-use Rattle.promises.specs.Good.{Formed, Good, AreBytes, statusAt, Openable}
+use Rattle.promises.specs.Good.{Sizes, Fresh, Formed, Good, AreBytes, statusAt, Openable}
 use Rattle.promises.specs.Reach.{reachAt}
 use Rattle.promises.specs.History.{accepted}
 use Rattle.promises.proofs.Patches.{patchAt}
 use Rattle.promises.proofs.Sane.{Sane, is-state}
 use Rattle.promises.proofs.Does.{putsFrom, writes, does}
+use Rattle.promises.proofs.Promise1Refusals.{opening-status}
 use Rattle.promises.proofs.Keeps.{Kept, patch-kept}
 
 -- ---- what an access leaves
@@ -63,12 +64,6 @@ after-memory x a = given-memory (statusAt x a) (x .state) (x .memory) (x .pictur
 
 -- ---- it is good
 
--- the panel and the memory's length stay
-pub record Sizes (s n : State) : Type 0 where
-  pub width : n .width ≡ s .width
-  pub height : n .height ≡ s .height
-  pub fitted : n .fitted ≡ s .fitted
-
 sizes-with : (p : Patch) (s : State) → Sizes s (applied p s)
 unfolding applied
 sizes-with p s = record { width = refl; height = refl; fitted = refl }
@@ -85,6 +80,11 @@ unfolding stepOf givenBy doneBy settled refused
 picture-length x a =
     pick-by (λ (o : Outcome). length (o .picture) ≡ length (x .picture)) (eqb (statusAt x a) 0) _ _
     (redrawn-length _ _ (x .picture)) refl
+
+-- along any list
+pub memory-along : (x : World) (l : List Access) → length (run x l .memory) ≡ length (x .memory)
+memory-along x [] = refl
+memory-along x (a ∷ l) = memory-along (after x a) l ∙ memory-length x a
 
 -- what is stored in memory are bytes
 puts-bytes : (x : World) (a : Access) → everyIn small (patchAt x a .puts) ≡ true
@@ -139,25 +139,18 @@ reset-sane w h f p q =
     record
     { panel = p; memory = q; component = refl; address = refl; once = refl; bank = refl; palette = refl }
 
-opening-parts : (w h : ℕ) (m p : List ℕ) → Openable w h m p → UnrefusedOpening w h (length m) (length p)
-opening-parts w h m p o = unrefused-opening w h (length m) (length p) (o .accepted)
+opening-parts : (w h : ℕ) (m p : List ℕ) → openOf w h m p .answer .status ≡ 0 → UnrefusedOpening w h (length m) (length p)
+opening-parts w h m p e = unrefused-opening w h (length m) (length p) (sym (opening-status w h m p) ∙ e)
 
--- what an opening that is not refused leaves
-pub record Fresh (w h : ℕ) (m p : List ℕ) : Type 0 where
-  pub status : openOf w h m p .answer .status ≡ 0
-  pub state : opened w h m p .state ≡ resetState w h (length m)
-  pub memory : opened w h m p .memory ≡ m
-  pub picture : opened w h m p .picture ≡ replicate (w * h) blankWord
-
-pub opens : (w h : ℕ) (m p : List ℕ) → Openable w h m p → Fresh w h m p
+pub opens : (w h : ℕ) (m p : List ℕ) → openOf w h m p .answer .status ≡ 0 → Fresh w h m p
 unfolding openOf
-opens w h m p o =
-    let q : eqb (openingStatus w h (length m) (length p)) 0 ≡ true = eq-eqb _ 0 (o .accepted) in
+opens w h m p e =
+    let q : eqb (openingStatus w h (length m) (length p)) 0 ≡ true = eq-eqb _ 0 (sym (opening-status w h m p) ∙ e) in
     record {
       status = ap (λ (t : Bool). pick t (done) (left) .answer .status) q;
       state = ap (λ (t : Bool). pick t (done) (left) .answer .state) q;
       memory = ap (λ (t : Bool). pick t (done) (left) .memory) q;
-      picture = ap (λ (t : Bool). pick t (done) (left) .picture) q ∙ ap (λ (n : ℕ). replicate n blankWord) (opening-parts w h m p o .dots);
+      picture = ap (λ (t : Bool). pick t (done) (left) .picture) q ∙ ap (λ (n : ℕ). replicate n blankWord) (opening-parts w h m p e .dots);
     }
   where
     done : Opening
@@ -169,8 +162,8 @@ opens w h m p o =
 pub opened-good : (w h : ℕ) (m p : List ℕ) → Openable w h m p → Good (opened w h m p)
 unfolding resetState
 opened-good w h m p o =
-    let f = opens w h m p o in
-    let q = opening-parts w h m p o in
+    let f = opens w h m p (o .accepted) in
+    let q = opening-parts w h m p (o .accepted) in
     record {
       state = ap isState (f .state) ∙ is-state _ (reset-sane w h (length m) (q .panel) (q .memory));
       formed = subst Formed (sym (f .state)) (reset-formed w h (length m));

@@ -13,12 +13,11 @@ use Rattle.chip.specs.declared.Access.{Access}
 use Rattle.chip.specs.declared.Dac.{Dac}
 use Rattle.chip.specs.declared.Colour.{Colour}
 use Rattle.chip.specs.Bank.{bankRow, subsystem}
-use Rattle.chip.specs.Palette.{keptAs}
 use Rattle.chip.specs.Place.{placeOf}
-use Rattle.chip.specs.Port.{wide}
 use Rattle.chip.specs.Refusal.{isWrite}
 use Rattle.chip.specs.Trace.{World}
 use Rattle.promises.specs.Reach.{reachAt}
+use Rattle.promises.specs.Width.{storedByte}
 use Rattle.promises.specs.History.{accepted, isData, Spot}
 
 -- ---- a register's bit
@@ -81,7 +80,7 @@ completes x a e =
 
 -- .. and the colour that it makes: the staged bytes, and its own as the width of that moment has it
 unfoldable pub madeColour : State → Access → Colour
-madeColour s a = record { red = s .dac .red; green = s .dac .green; blue = keptAs (wide s) (laneByte 0 (a .word)) }
+madeColour s a = record { red = s .dac .red; green = s .dac .green; blue = storedByte s (laneByte 0 (a .word)) }
 
 -- ---- a memory byte
 

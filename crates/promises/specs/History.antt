@@ -1,8 +1,9 @@
 -- What an access, made at a world, puts where: the words in which a known bit's origin is told.
 use Prim.Native.Nat.{ℕ, _+_, _<_}
-use mathlib.Core.Bool.{Bool, _&&_}
+use mathlib.Core.Bool.{Bool, false, _&&_}
 use mathlib.Core.List.{List, [], _∷_}
 use mathlib.Core.Option.{Option, none, some}
+use mathlib.Core.Path.{_≡_}
 use lib.Dec.{eqb}
 use lib.ListN.{getD}
 use Rattle.bits.specs.Choose.{pick}
@@ -13,16 +14,21 @@ use Rattle.chip.specs.declared.Access.{Access}
 use Rattle.chip.specs.declared.Answer.{Answer}
 use Rattle.chip.specs.declared.Colour.{Colour}
 use Rattle.chip.specs.Bank.{bankCount, bankRow}
-use Rattle.chip.specs.Palette.{shownAs, partOf}
 use Rattle.chip.specs.Place.{placeOf}
 use Rattle.chip.specs.Refusal.{isWrite}
 use Rattle.chip.specs.Trace.{World, after}
 use Rattle.promises.specs.Good.{statusAt}
 use Rattle.promises.specs.Reach.{reachAt}
+use Rattle.promises.specs.Width.{readByte, componentOf}
 
 -- access a, made at x, is not refused
 unfoldable pub accepted : World → Access → Bool
 accepted x a = eqb (statusAt x a) 0
+
+-- .. and is a read
+pub record Accepted (x : World) (a : Access) : Type 0 where
+  pub read : isWrite a ≡ false
+  pub done : statusAt x a ≡ 0
 
 -- a bit as it is seen: its value where it is known, and nothing where it is not
 unfoldable pub seenBit : Bool → Bool → Option Bool
@@ -33,9 +39,9 @@ unfoldable pub shows : Answer → ℕ → Option Bool
 shows r b = seenBit (bit b (r .known)) (bit b (r .word))
 
 -- a bit of component c of a palette entry, as the width shows it: of an entry never stored nothing, and nothing above bit 7
-unfoldable pub partBit : Bool → ℕ → ℕ → Option Colour → Option Bool
-partBit w c b none = none
-partBit w c b (some x) = seenBit (bit b 0xFF) (bit b (shownAs w (partOf c x)))
+unfoldable pub partBit : State → ℕ → ℕ → Option Colour → Option Bool
+partBit s c b none = none
+partBit s c b (some x) = seenBit (bit b 0xFF) (bit b (readByte s (componentOf c x)))
 
 -- ---- bits of registers
 

@@ -1,10 +1,13 @@
 pub mod Good
 pub mod Along
 pub mod Reach
+pub mod Width
 pub mod History
 pub mod Frame
 pub mod View
+pub mod Dots
 pub mod Loads
 pub mod Origin
 pub mod Places
+pub mod Told
 pub mod Refusals

@@ -8,12 +8,11 @@ use Rattle.bits.specs.Word.{laneByte}
 use Rattle.chip.specs.declared.Access.{Access}
 use Rattle.chip.specs.declared.Colour.{Colour}
 use Rattle.chip.specs.declared.Place.the-variants.{PaletteData}
-use Rattle.chip.specs.Palette.{keptAs}
 use Rattle.chip.specs.Place.{placeOf}
-use Rattle.chip.specs.Port.{wide}
 use Rattle.chip.specs.Refusal.{isWrite}
 use Rattle.chip.specs.Trace.{World, after, run}
 use Rattle.promises.specs.Good.{statusAt}
+use Rattle.promises.specs.Width.{storedByte}
 use Rattle.promises.specs.History.{isData, isAim}
 
 -- an accepted write, with lane 0, of component c of entry e, whose byte is stored as v by the width of that moment
@@ -24,7 +23,7 @@ pub record WritesPart (x : World) (a : Access) (e c v : ℕ) : Type 0 where
   pub lane : bit 0 (a .enables) ≡ true
   pub entry : x .state .dac .address ≡ e
   pub component : x .state .dac .component ≡ c
-  pub value : v ≡ keptAs (wide (x .state)) (laneByte 0 (a .word))
+  pub value : v ≡ storedByte (x .state) (laneByte 0 (a .word))
 
 -- what disturbs a load between two of its writes: an accepted palette data access with lane 0, read or written, and an accepted setting of an address with lane 0.
 -- Refused accesses, reading the address, accesses without lane 0 and other registers do not

@@ -84,6 +84,12 @@ pub record AddressSet (x : World) (l : List Access) (v n : ℕ) : Type 0 where
   pub silent : lastPut after aimPut (after (run x before) by) rest ≡ none
   pub count : n ≡ dataSteps (after (run x before) by) rest
 
+-- an access of the list set the address
+pub record SetBy (x : World) (l : List Access) : Type 0 where
+  pub value : ℕ
+  pub steps : ℕ
+  pub set : AddressSet x l value steps
+
 -- the value set plus one for each completed third component, modulo 256; and the component
 pub record AddressAt (d : Dac) (v n : ℕ) : Type 0 where
   pub known : d .known ≡ 0xFF

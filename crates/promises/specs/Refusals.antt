@@ -67,8 +67,9 @@ pub record IsState (s : State) : Type 0 where
   pub flags : s .once ≤ 3
   pub palette : (e : ℕ) → e < entryCount → SoundEntry (s .palette) e
 
--- what is known of each register and of the address is a word, as the types have it
+-- what is held and known of each register, and known of the address, are words, as the types have it
 pub record Words (s : State) : Type 0 where
+  pub values : (i : ℕ) → getD (s .values) i 0 < 2 ^ 32
   pub knowns : (i : ℕ) → getD (s .knowns) i 0 < 2 ^ 32
   pub address : s .dac .known < 2 ^ 32
 

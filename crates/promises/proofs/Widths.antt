@@ -1,0 +1,26 @@
+-- The width does to a byte what 01 says: each conversion of the definitions is the one of specs/Width.
+-- By the two widths. Assumes nothing.
+use Prim.Native.Nat.{ℕ, _*_, _/_, _%_}
+use mathlib.Core.Path.{_≡_, refl}
+use native.Mathlib.Omega.{arith}
+use Rattle.bits.specs.Word.{laneByte}
+use Rattle.bits.proofs.Cases.{byTest}
+use Rattle.chip.specs.declared.State.{State}
+use Rattle.chip.specs.declared.Access.{Access}
+use Rattle.chip.specs.declared.Colour.{Colour}
+use Rattle.chip.specs.Palette.{keptAs, shownAs, partOf}
+use Rattle.chip.specs.Port.{wide, keptFrom}
+use Rattle.promises.specs.Width.{eightBits, storedByte, readByte, componentOf}
+
+-- the byte of a palette data write
+pub kept-told : (s : State) (a : Access) → keptFrom s a ≡ storedByte s (laneByte 0 (a .word))
+unfolding keptFrom keptAs wide storedByte eightBits
+kept-told s a =
+    byTest (eightBits s)
+    (λ q. simp q)
+    (λ q. simp q (let e : laneByte 0 (a .word) % 64 * 4 ≡ 4 * (laneByte 0 (a .word) % 64) = omega arith in e))
+
+-- a component of an entry, as it is read
+pub shown-told : (s : State) (c : ℕ) (x : Colour) → shownAs (wide s) (partOf c x) ≡ readByte s (componentOf c x)
+unfolding shownAs wide partOf readByte eightBits componentOf
+shown-told s c x = refl

@@ -31,7 +31,7 @@ use Rattle.chip.specs.Port.{seen, knownIn, wordIn, rowPatch, aimPatch, paintPat
 use Rattle.chip.specs.Refusal.{isWrite, portOf, statusOf}
 use Rattle.chip.specs.Picture.{wordOf}
 use Rattle.chip.specs.Step.{Outcome, Gives, answered, refused, settled, seenBy, patchOf, stateAfter, memoryAfter, doneBy, givenBy, stepOf}
-use Rattle.chip.proofs.Refusals.{unrefused}
+use Rattle.chip.proofs.Refusals.{unrefused, read-is, write-is}
 use Rattle.chip.proofs.Ports.{read-steps}
 use Rattle.picture.specs.Draw.{fits, Redraws}
 use Rattle.picture.proofs.Parts.{still-redraws}
@@ -181,14 +181,6 @@ module _ (s : State) (m l : List ℕ) (a : Access) (p : Place) (ep : p ≡ place
 
 -- ---- one access
 
-writes : (a : Access) → (a .write ≡ 0 → ⊥) → isWrite a ≡ true
-unfolding isWrite
-writes a n = ap not (ne-eqb (a .write) 0 n)
-
-reads : (a : Access) → a .write ≡ 0 → isWrite a ≡ false
-unfolding isWrite
-reads a e = ap not (eq-eqb (a .write) 0 e)
-
 -- found: its place and its status
 pub record Found (s : State) (m l : List ℕ) (a : Access) (p : Place) (n : ℕ) : Type 0 where
   pub place : p ≡ placeAt (s .dac) (a .target) (a .offset)
@@ -225,17 +217,17 @@ module _ (s : State) (m l : List ℕ) (a : Access) (p : Place) (n : ℕ) (f : Fo
   pub step-read : n ≡ 0 → a .write ≡ 0
       → r ≡ answered 0 (wordIn (portAt s a p .seen m) (a .enables)) (knownIn (portAt s a p .seen m) (a .enables)) 0 (applied (portAt s a p .peeked) s)
       → Gives (stepOf s m l a) r m l
-  step-read h w e = step-done _ m l h (done-read s m l a p (f .place) (reads a w)) (read s a p m l r _ _ e)
+  step-read h w e = step-done _ m l h (done-read s m l a p (f .place) (read-is a w)) (read s a p m l r _ _ e)
 
   pub step-window : (i : ℕ) (m′ l′ : List ℕ) → n ≡ 0 → (a .write ≡ 0 → ⊥) → placeOf s a ≡ Window i
       → Gives (settled s m l s (putAll m (putsOf (getD (s .values) i 0) (atByte (a .offset)) (a .enables) (a .word))) 0 0) r m′ l′ → Gives (stepOf s m l a) r m′ l′
   unfolding portAt pokePatch applied memoryWith
-  step-window i m′ l′ h w e g = step-done _ m′ l′ h (done-write s m l a (Window i) (sym e) _ (writes a w) refl) g
+  step-window i m′ l′ h w e g = step-done _ m′ l′ h (done-write s m l a (Window i) (sym e) _ (write-is a w) refl) g
 
   pub step-write : (l′ : List ℕ) → n ≡ 0 → (a .write ≡ 0 → ⊥) → (a .target ≡ 1 → ⊥) → (a .target ≡ 2 → ⊥)
       → Gives (settled s m l (applied (portAt s a p .stored) s) m 0 0) r m l′ → Gives (stepOf s m l a) r m l′
   unfolding memoryWith
   step-write l′ h w k j g =
       step-done _ m l′ h
-      (done-write s m l a p (f .place) m (writes a w)
+      (done-write s m l a p (f .place) m (write-is a w)
       (ap (λ (x : Place). putAll m (portAt s a x .stored .puts)) (f .place) ∙ ap (putAll m) (other-dry s a k j))) g

@@ -3,11 +3,12 @@
 use Prim.Native.Nat.{ℕ, _%_}
 use mathlib.Core.Bool.{Bool, true, not, _&&_}
 use mathlib.Core.List.{List, [], _∷_}
+use mathlib.Core.Option.{Option, none, some}
 use mathlib.Core.Path.{_≡_, refl, sym, ap, ap₂, _∙_}
 use native.Mathlib.Omega.{arith}
 use borrow.Author.Tests.{eqb-true, eqb-false, eq-eqb}
 use lib.Dec.{eqb, leb}
-use lib.ListN.{length}
+use lib.ListN.{getD, length}
 use Rattle.bits.specs.Choose.{pick}
 use Rattle.bits.specs.Bit.{bit}
 use Rattle.bits.proofs.Cases.{byTest}
@@ -19,7 +20,7 @@ use Rattle.chip.specs.declared.Seen.{Seen}
 use Rattle.chip.specs.declared.Place.{Place}
 use Rattle.chip.specs.declared.Place.the-variants.{Register, Address, PaletteData, Window, Blank, Nowhere}
 use Rattle.chip.specs.Bank.{miscControl}
-use Rattle.chip.specs.Aperture.{Put, putAll}
+use Rattle.chip.specs.Aperture.{served, Put, putAll}
 use Rattle.chip.specs.View.{View, viewOf}
 use Rattle.chip.specs.Picture.{viewWord, wordOf}
 use Rattle.chip.specs.Place.{placeAt, placeOf}
@@ -32,9 +33,9 @@ use Rattle.promises.specs.Reach.{reachAt}
 use Rattle.promises.specs.Places.{Leads, one, two}
 use Rattle.promises.specs.History.{accepted, Accepted}
 use Rattle.promises.specs.View.{SameAnswer, SameWindow, command, ButRow}
-use Rattle.promises.proofs.Does.{putsFrom, does}
-use Rattle.promises.proofs.Sites.{window-there}
-use Rattle.promises.proofs.Places.{place-leads}
+use Rattle.promises.proofs.Does.{putsFrom, fitsFrom, servedFrom, ways, does}
+use Rattle.promises.proofs.Sites.{names, window-there}
+use Rattle.promises.proofs.Places.{leads-window}
 use Rattle.promises.proofs.Worlds.{after-memory}
 use Rattle.promises.proofs.Shown.{sees, answer-word, answer-known}
 use Rattle.promises.proofs.Answers.{write-answers}
@@ -150,51 +151,58 @@ module _ (x y : World) (a : Access) (b : ButRow x y command) where
   aperture i (one t) e = omega (arith, e)
   aperture i (two t) e = omega (arith, e)
 
+  control : (i : ℕ) → reachAt (placeOf (x .state) a) .window ≡ some i → getD (y .state .values) i 0 ≡ getD (x .state .values) i 0
+  control i e = b .values i (aperture i (leads-window (x .state) a i (names (placeOf (x .state) a) .window i e)))
+
   wide-same : wide (y .state) ≡ wide (x .state)
   unfolding wide
   wide-same = ap (bit 1) (b .values miscControl (λ e. omega (arith, e)))
 
-  ways-at : (p : Place) → placeOf (x .state) a ≡ p → SameWays x y a p
-  unfolding portAt
-  ways-at (Register i) e = record { present = refl; reads = refl; writes = refl; served = refl }
-  ways-at Address e = record { present = refl; reads = refl; writes = refl; served = refl }
-  ways-at PaletteData e = record { present = refl; reads = refl; writes = refl; served = refl }
-  ways-at (Window i) e =
-      let v = b .values i (aperture i (place-leads (x .state) a (Window i) refl e)) in
-      record { present = simp (b .fitted, v); reads = refl; writes = refl; served = simp v }
-  ways-at Blank e = record { present = refl; reads = refl; writes = refl; served = refl }
-  ways-at Nowhere e = record { present = refl; reads = refl; writes = refl; served = refl }
+  -- a window is no other row's
+  fits-alike : (o : Option ℕ) → reachAt (placeOf (x .state) a) .window ≡ o → fitsFrom (y .state) a o ≡ fitsFrom (x .state) a o
+  fits-alike none e = refl
+  fits-alike (some i) e = simp (b .fitted, control i e)
+
+  serves-alike : (o : Option ℕ) → reachAt (placeOf (x .state) a) .window ≡ o → servedFrom (y .state) o ≡ servedFrom (x .state) o
+  serves-alike none e = refl
+  serves-alike (some i) e = ap served (control i e)
+
+  puts-alike : (o : Option ℕ) → reachAt (placeOf (x .state) a) .window ≡ o → putsFrom (y .state) a o ≡ putsFrom (x .state) a o
+  puts-alike none e = refl
+  puts-alike (some i) e = ap (λ (c : ℕ). pokePatch c a .puts) (control i e)
+
+  ways-alike : SameWays x y a (placeOf (x .state) a)
+  ways-alike =
+      let u = ways (x .state) a (placeOf (x .state) a) in
+      let v = ways (y .state) a (placeOf (x .state) a) in
+      record {
+        present = v .present ∙ ap (λ (t : Bool). reachAt (placeOf (x .state) a) .here && t) (fits-alike (reachAt (placeOf (x .state) a) .window) refl) ∙ sym (u .present);
+        reads = v .reads ∙ sym (u .reads);
+        writes = v .writes ∙ sym (u .writes);
+        served = v .served ∙ serves-alike (reachAt (placeOf (x .state) a) .window) refl ∙ sym (u .served);
+      }
 
   seen-at : (p : Place) → placeOf (x .state) a ≡ p → (p ≡ Register command → ⊥) → portAt (y .state) a p .seen (y .memory) ≡ portAt (x .state) a p .seen (x .memory)
   unfolding portAt
   seen-at (Register i) e n = simp (b .values i (λ q. n (ap Register q)), b .knowns)
   seen-at Address e n = simp (b .dac)
   seen-at PaletteData e n = simp (wide-same, b .dac, b .palette)
-  seen-at (Window i) e n = simp (b .values i (aperture i (place-leads (x .state) a (Window i) refl e)), b .memory)
+  seen-at (Window i) e n = simp (b .values i (aperture i (leads-window (x .state) a i e)), b .memory)
   seen-at Blank e n = refl
   seen-at Nowhere e n = refl
-
-  puts-alike : (p : Place) → placeOf (x .state) a ≡ p → putsFrom (y .state) a (reachAt p .window) ≡ putsFrom (x .state) a (reachAt p .window)
-  unfolding reachAt
-  puts-alike (Window i) e = ap (λ (c : ℕ). pokePatch c a .puts) (b .values i (aperture i (place-leads (x .state) a (Window i) refl e)))
-  puts-alike (Register i) e = refl
-  puts-alike Address e = refl
-  puts-alike PaletteData e = refl
-  puts-alike Blank e = refl
-  puts-alike Nowhere e = refl
 
   there : placeOf (y .state) a ≡ placeOf (x .state) a
   there = ap (λ (d : Dac). placeAt d (a .target) (a .offset)) (b .dac)
 
   pub gates-none : Good x → Good y → statusAt y a ≡ statusAt x a
-  gates-none g h = same-status x y a (placeOf (x .state) a) g h refl there (ways-at (placeOf (x .state) a) refl)
+  gates-none g h = same-status x y a (placeOf (x .state) a) g h refl there ways-alike
 
   pub same-elsewhere : Good x → Good y → (placeOf (x .state) a ≡ Register command → ⊥) → SameAnswer x y a
   same-elsewhere g h n =
       same-port x y a (placeOf (x .state) a) g h refl there
       (record {
-        ways = ways-at (placeOf (x .state) a) refl;
+        ways = ways-alike;
         seen = seen-at (placeOf (x .state) a) refl n;
-        puts = puts-alike (placeOf (x .state) a) refl;
+        puts = puts-alike (reachAt (placeOf (x .state) a) .window) refl;
       })
       (b .memory)

@@ -1,4 +1,4 @@
--- What an access stores, part by part, from what its place reaches: the one place here that goes through the places.
+-- What an access is asked and stores, part by part, from what its place reaches: the one place here that goes through the places for it.
 -- By the place that the access leads to; then whether it is accepted, and a write. Assumes nothing.
 use Prim.Native.Nat.{ℕ}
 use mathlib.Core.Bool.{Bool, true, false, _&&_}
@@ -16,7 +16,9 @@ use Rattle.chip.specs.declared.Dac.{Dac}
 use Rattle.chip.specs.declared.Place.{Place}
 use Rattle.chip.specs.declared.Place.the-variants.{Register, Address, PaletteData, Window, Blank, Nowhere}
 use Rattle.chip.specs.Dac.{aimedAt, afterPeek, afterPaint, completedBy}
-use Rattle.chip.specs.Aperture.{Put}
+use Rattle.chip.specs.Bank.{bankRow}
+use Rattle.chip.specs.Units.{atByte}
+use Rattle.chip.specs.Aperture.{served, span, reachesMemory, Put}
 use Rattle.chip.specs.Patch.{Store}
 use Rattle.chip.specs.Place.{placeOf}
 use Rattle.chip.specs.Port.{rowPatch, aimPatch, peekPatch, keptFrom, paintPatch, pokePatch, portAt}
@@ -40,7 +42,39 @@ abbrev pub putsFrom : State → Access → Option ℕ → List Put
 putsFrom s a none = []
 putsFrom s a (some i) = pokePatch (getD (s .values) i 0) a .puts
 
+-- .. and what a place asks of them for the refusals: memory that is fitted, a register's directions, a mode that is served
+abbrev pub fitsFrom : State → Access → Option ℕ → Bool
+fitsFrom s a none = true
+fitsFrom s a (some i) = reachesMemory (s .fitted) (span (getD (s .values) i 0) (atByte (a .offset)))
+
+abbrev pub readsFrom : Option ℕ → Bool
+readsFrom none = true
+readsFrom (some i) = bankRow i .reads
+
+abbrev pub writesFrom : Option ℕ → Bool
+writesFrom none = true
+writesFrom (some i) = bankRow i .writes
+
+abbrev pub servedFrom : State → Option ℕ → Bool
+servedFrom s none = true
+servedFrom s (some i) = served (getD (s .values) i 0)
+
 -- ---- by the place
+
+pub record Ways (s : State) (a : Access) (p : Place) : Type 0 where
+  pub present : portAt s a p .present ≡ (reachAt p .here && fitsFrom s a (reachAt p .window))
+  pub reads : portAt s a p .reads ≡ readsFrom (reachAt p .row)
+  pub writes : portAt s a p .writes ≡ writesFrom (reachAt p .row)
+  pub served : portAt s a p .served ≡ servedFrom s (reachAt p .window)
+
+pub ways : (s : State) (a : Access) (p : Place) → Ways s a p
+unfolding portAt reachAt
+ways s a (Register i) = record { present = refl; reads = refl; writes = refl; served = refl }
+ways s a Address = record { present = refl; reads = refl; writes = refl; served = refl }
+ways s a PaletteData = record { present = refl; reads = refl; writes = refl; served = refl }
+ways s a (Window i) = record { present = refl; reads = refl; writes = refl; served = refl }
+ways s a Blank = record { present = refl; reads = refl; writes = refl; served = refl }
+ways s a Nowhere = record { present = refl; reads = refl; writes = refl; served = refl }
 
 record Told (s : State) (a : Access) (p : Place) : Type 0 where
   store : portAt s a p .stored .store ≡ storeFrom s a (reachAt p .row)

@@ -46,7 +46,7 @@ use Rattle.promises.proofs.Worlds.{after-state, after-memory}
 use Rattle.promises.proofs.Shown.{enables-lt, sees, answer-word, answer-known}
 use Rattle.promises.proofs.Answers.{write-answers, still-picture}
 use Rattle.promises.proofs.Sites.{names, region-plain}
-use Rattle.promises.proofs.Places.{place-leads}
+use Rattle.promises.proofs.Places.{leads-register, leads-window, leads-blank}
 
 -- ---- the RAMDAC's registers: of region 0 those from 4000h on, and the indirect ones
 
@@ -84,7 +84,7 @@ of-byte i h d =
 module _ (s : State) (a : Access) (t : a .target ≡ 0) (f : 0x4000 ≤ a .offset) where
   ramdac-row : (i : ℕ) → placeOf s a ≡ Register i → OfByte i
   unfolding dac-row
-  ramdac-row i e = go (place-leads s a (Register i) refl e)
+  ramdac-row i e = go (leads-register s a i e)
     where
       go : Leads s a (Register i) → OfByte i
       go (indexed u o k j r) =
@@ -220,8 +220,8 @@ module _ (x : World) (a : Access) (h : Words (x .state)) (t : a .target ≡ 0) (
         part : (o : Option Colour) → bit b (seenPart (wide (x .state)) (x .state .dac .component) o .known) ≡ false
         part none = bit-of-zero b
         part (some c) = bit-high 8 b 0xFF lo (omega arith)
-    high-at (Window i) e b lo hi = absurd (window-not (x .state) a t f i (place-leads (x .state) a (Window i) refl e))
-    high-at Blank e b lo hi = absurd (blank-not (x .state) a t f (place-leads (x .state) a Blank refl e))
+    high-at (Window i) e b lo hi = absurd (window-not (x .state) a t f i (leads-window (x .state) a i e))
+    high-at Blank e b lo hi = absurd (blank-not (x .state) a t f (leads-blank (x .state) a e))
     high-at Nowhere e b lo hi = bit-of-zero b
 
     nothing-known : step x a .answer .known ≡ 0

@@ -4,7 +4,8 @@ use Prim.Native.Nat.{ℕ, zero, suc, _+_, _*_, _%_, _≤_, _<_}
 use mathlib.Core.Bool.{Bool, true, false, not, _&&_}
 use mathlib.Core.List.{List, [], _∷_}
 use mathlib.Core.Logic.{_↔_}
-use mathlib.Core.Path.{_≡_, refl, sym, ap, _∙_, subst}
+use mathlib.Core.Option.{Option, none, some}
+use mathlib.Core.Path.{_≡_, refl, sym, ap, ap₂, _∙_, subst}
 use native.Mathlib.Omega.{arith}
 use borrow.Author.Tests.{eqb-true, eq-eqb, ne-eqb, leb-true, le-leb, not-true, not-false}
 use lib.Dec.{eqb, leb}
@@ -12,19 +13,24 @@ use lib.ListN.{getD, length}
 use Rattle.bits.specs.Choose.{pick}
 use Rattle.bits.specs.Bit.{bit}
 use Rattle.bits.proofs.Cases.{byTest, pick-same}
-use Rattle.bits.proofs.Bools.{and-first, and-second, clash}
+use Rattle.bits.proofs.Bools.{and-first, and-second, and-both, clash}
 use Rattle.chip.specs.declared.State.{State}
 use Rattle.chip.specs.declared.Access.{Access}
 use Rattle.chip.specs.declared.Place.{Place}
-use Rattle.chip.specs.declared.Place.the-variants.{Register, Address, PaletteData, Window, Blank, Nowhere}
+use Rattle.chip.specs.declared.Place.the-variants.{Register, Window}
 use Rattle.chip.specs.Aperture.{swapOf, served, span, reachesMemory}
 use Rattle.chip.specs.Place.{placeOf}
 use Rattle.chip.specs.Port.{portAt}
 use Rattle.chip.specs.Refusal.{Line, line, firstOf, isWrite, portOf}
 use Rattle.chip.specs.Trace.{World}
-use Rattle.promises.specs.Places.{isNowhere, Leads, address, palette, indexed, region, one, two, header, blank}
+use Rattle.chip.proofs.Refusals.{is-read, is-write, read-is, write-is}
+use Rattle.promises.specs.Reach.{reachAt}
+use Rattle.promises.specs.Places.{Leads, address, palette, indexed, region, one, two, header, blank}
 use Rattle.promises.specs.Refusals.{Lent, Asked, Found, Directed, Served}
-use Rattle.promises.proofs.Places.{leads-place, place-leads}
+use Rattle.promises.proofs.Options.{absurd-put}
+use Rattle.promises.proofs.Does.{fitsFrom, readsFrom, writesFrom, servedFrom, ways}
+use Rattle.promises.proofs.Sites.{names}
+use Rattle.promises.proofs.Places.{leads-place, place-leads, leads-register, leads-window}
 
 -- ---- which number is given
 
@@ -107,23 +113,6 @@ asked-test a = (
 pub aligned-test : (a : Access) → (not (eqb (a .offset % 4) 0) ≡ false) ↔ (a .offset % 4 ≡ 0)
 aligned-test a = ((λ e. eqb-true _ 0 (not-false (eqb (a .offset % 4) 0) e)), (λ f. simp f))
 
--- 0 is a read, anything else a write
-pub is-read : (a : Access) → isWrite a ≡ false → a .write ≡ 0
-unfolding isWrite
-is-read a e = eqb-true _ 0 (not-false (eqb (a .write) 0) e)
-
-pub is-write : (a : Access) → isWrite a ≡ true → a .write ≡ 0 → ⊥
-unfolding isWrite
-is-write a e z = clash _ e (ap not (eq-eqb (a .write) 0 z))
-
-pub read-is : (a : Access) → a .write ≡ 0 → isWrite a ≡ false
-unfolding isWrite
-read-is a e = ap not (eq-eqb (a .write) 0 e)
-
-pub write-is : (a : Access) → (a .write ≡ 0 → ⊥) → isWrite a ≡ true
-unfolding isWrite
-write-is a e = ap not (ne-eqb (a .write) 0 e)
-
 -- the modes served
 served-of : (c : ℕ) → served c ≡ true → Served c
 unfolding served swapOf
@@ -144,8 +133,9 @@ of-served c f = simp (ne-eqb (c % 4) 3 (f .swap), f .unpacked, f .no-svga, f .no
 -- ---- the place's lines
 
 module _ (s : State) (a : Access) where
-  -- what leads somewhere does not lead nowhere
-  somewhere : (p : Place) → Leads s a p → isNowhere p ≡ false
+  -- what leads somewhere finds something
+  somewhere : (p : Place) → Leads s a p → reachAt p .here ≡ true
+  unfolding reachAt
   somewhere p (address t o) = refl
   somewhere p (palette t o k) = refl
   somewhere p (indexed t o k i r) = refl
@@ -155,89 +145,90 @@ module _ (s : State) (a : Access) where
   somewhere p (header t o i r) = refl
   somewhere p (blank t o n) = refl
 
-  -- 5
-  here : (p : Place) → portAt s a p .present ≡ true → isNowhere p ≡ false
-  unfolding portAt
-  here (Register i) t = refl
-  here Address t = refl
-  here PaletteData t = refl
-  here (Window i) t = refl
-  here Blank t = refl
-  here Nowhere t = sym t
+  -- a register or a window that the access reaches is one that it leads to, and back
+  to-row : (i : ℕ) → reachAt (placeOf s a) .row ≡ some i → Leads s a (Register i)
+  to-row i e = leads-register s a i (names (placeOf s a) .row i e)
 
-  found-of : portOf s a .present ≡ true → Found s a
-  unfolding portOf portAt reachesMemory span
+  to-window : (i : ℕ) → reachAt (placeOf s a) .window ≡ some i → Leads s a (Window i)
+  to-window i e = leads-window s a i (names (placeOf s a) .window i e)
+
+  row-of : (i : ℕ) → Leads s a (Register i) → reachAt (placeOf s a) .row ≡ some i
+  unfolding reachAt
+  row-of i d = ap (λ (p : Place). reachAt p .row) (leads-place s a (Register i) d)
+
+  window-of : (p : Place) (i : ℕ) → p ≡ Window i → reachAt p .window ≡ some i
+  unfolding reachAt
+  window-of p i e = ap (λ (q : Place). reachAt q .window) e
+
+  -- 5
+  fits-test : (o : Option ℕ) → (fitsFrom s a o ≡ true) ↔ ((i : ℕ) → o ≡ some i → a .offset + 3 < s .fitted)
+  unfolding reachesMemory span
+  fits-test none = ((λ e i q. absurd-put none i refl q), (λ f. refl))
+  fits-test (some j) = (
+    (λ e i q. let z = leb-true (a .offset + 4) (s .fitted) e in omega arith),
+    (λ f. le-leb (a .offset + 4) (s .fitted) (let z = f j refl in omega arith)),
+  )
+
+  present : (p : Place) → portAt s a p .present ≡ (reachAt p .here && fitsFrom s a (reachAt p .window))
+  present p = ways s a p .present
+
+  found-of : portAt s a (placeOf s a) .present ≡ true → Found s a
   found-of t =
+      let u = sym (present (placeOf s a)) ∙ t in
       record {
         place = placeOf s a;
-        leads = place-leads s a (placeOf s a) (here (placeOf s a) t) refl;
-        fitted = λ i q.
-            let z = leb-true (a .offset + 4) (s .fitted) (subst (λ (p : Place). portAt s a p .present ≡ true) q t) in
-            omega (arith, z);
+        leads = place-leads s a (placeOf s a) (and-first (reachAt (placeOf s a) .here) _ u) refl;
+        fitted = λ i q. fits-test (reachAt (placeOf s a) .window) .0 (and-second (reachAt (placeOf s a) .here) _ u) i (window-of (placeOf s a) i q);
       }
 
-  present-at : (p : Place) → isNowhere p ≡ false → ((i : ℕ) → p ≡ Window i → a .offset + 3 < s .fitted) → portAt s a p .present ≡ true
-  unfolding portAt reachesMemory span
-  present-at (Register i) n f = refl
-  present-at Address n f = refl
-  present-at PaletteData n f = refl
-  present-at (Window i) n f = le-leb (a .offset + 4) (s .fitted) (let z = f i refl in omega arith)
-  present-at Blank n f = refl
-  present-at Nowhere n f = sym n
+  of-found : Found s a → portAt s a (placeOf s a) .present ≡ true
+  of-found f =
+      let e = leads-place s a (f .place) (f .leads) in
+      present (placeOf s a)
+      ∙ and-both _ _ (ap (λ (p : Place). reachAt p .here) e ∙ somewhere (f .place) (f .leads))
+      (fits-test (reachAt (placeOf s a) .window) .1 (λ i q. f .fitted i (sym e ∙ names (placeOf s a) .window i q)))
 
   pub found-test : (not (portOf s a .present) ≡ false) ↔ Found s a
   unfolding portOf
-  found-test = (
-    (λ e. found-of (not-false (portOf s a .present) e)),
-    (λ f.
-        ap not
-        (subst (λ (p : Place). portAt s a p .present ≡ true) (sym (leads-place s a (f .place) (f .leads)))
-        (present-at (f .place) (somewhere (f .place) (f .leads)) (f .fitted)))),
-  )
+  found-test = ((λ e. found-of (not-false (portAt s a (placeOf s a) .present) e)), (λ f. ap not (of-found f)))
 
   -- 6
-  abbrev directed : Place → Bool
-  directed p = pick (isWrite a) (portAt s a p .writes) (portAt s a p .reads)
+  abbrev directed : Option ℕ → Bool
+  directed o = pick (isWrite a) (writesFrom o) (readsFrom o)
 
-  directed-of : directed (placeOf s a) ≡ true → Directed s a
-  unfolding portAt
+  directs : pick (isWrite a) (portAt s a (placeOf s a) .writes) (portAt s a (placeOf s a) .reads) ≡ directed (reachAt (placeOf s a) .row)
+  directs = ap₂ (λ (u v : Bool). pick (isWrite a) u v) (ways s a (placeOf s a) .writes) (ways s a (placeOf s a) .reads)
+
+  directed-of : directed (reachAt (placeOf s a) .row) ≡ true → Directed s a
   directed-of t =
       record {
-        reads = λ i d w. simp (read-is a w) at (subst (λ (p : Place). directed p ≡ true) (leads-place s a (Register i) d) t);
-        writes = λ i d w. simp (write-is a w) at (subst (λ (p : Place). directed p ≡ true) (leads-place s a (Register i) d) t);
+        reads = λ i d w. simp (read-is a w) at (subst (λ (o : Option ℕ). directed o ≡ true) (row-of i d) t);
+        writes = λ i d w. simp (write-is a w) at (subst (λ (o : Option ℕ). directed o ≡ true) (row-of i d) t);
       }
 
-  directed-at : Directed s a → (p : Place) → placeOf s a ≡ p → directed p ≡ true
-  unfolding portAt
-  directed-at f (Register i) e =
-      let d = place-leads s a (Register i) refl e in
-      byTest (isWrite a) (λ w. simp w (f .writes i d (is-write a w))) (λ w. simp w (f .reads i d (is-read a w)))
-  directed-at f Address e = pick-same (isWrite a) true
-  directed-at f PaletteData e = pick-same (isWrite a) true
-  directed-at f (Window i) e = pick-same (isWrite a) true
-  directed-at f Blank e = pick-same (isWrite a) true
-  directed-at f Nowhere e = pick-same (isWrite a) true
+  of-directed : Directed s a → (o : Option ℕ) → reachAt (placeOf s a) .row ≡ o → directed o ≡ true
+  of-directed f none e = pick-same (isWrite a) true
+  of-directed f (some i) e =
+      byTest (isWrite a) (λ w. simp w (f .writes i (to-row i e) (is-write a w))) (λ w. simp w (f .reads i (to-row i e) (is-read a w)))
 
   pub directed-test : (not (pick (isWrite a) (portOf s a .writes) (portOf s a .reads)) ≡ false) ↔ Directed s a
   unfolding portOf
   directed-test = (
-    (λ e. directed-of (not-false (directed (placeOf s a)) e)),
-    (λ f. ap not (directed-at f (placeOf s a) refl)),
+    (λ e. directed-of (sym directs ∙ not-false (pick (isWrite a) (portAt s a (placeOf s a) .writes) (portAt s a (placeOf s a) .reads)) e)),
+    (λ f. ap not (directs ∙ of-directed f (reachAt (placeOf s a) .row) refl)),
   )
 
   -- 7
-  served-at : ((i : ℕ) → Leads s a (Window i) → Served (getD (s .values) i 0)) → (p : Place) → placeOf s a ≡ p → portAt s a p .served ≡ true
-  unfolding portAt
-  served-at f (Register i) e = refl
-  served-at f Address e = refl
-  served-at f PaletteData e = refl
-  served-at f (Window i) e = of-served (getD (s .values) i 0) (f i (place-leads s a (Window i) refl e))
-  served-at f Blank e = refl
-  served-at f Nowhere e = refl
+  of-served-at : ((i : ℕ) → Leads s a (Window i) → Served (getD (s .values) i 0)) → (o : Option ℕ) → reachAt (placeOf s a) .window ≡ o → servedFrom s o ≡ true
+  of-served-at f none e = refl
+  of-served-at f (some i) e = of-served (getD (s .values) i 0) (f i (to-window i e))
 
   pub served-test : (not (portOf s a .served) ≡ false) ↔ ((i : ℕ) → Leads s a (Window i) → Served (getD (s .values) i 0))
-  unfolding portOf portAt
+  unfolding portOf
   served-test = (
-    (λ e i d. served-of (getD (s .values) i 0) (subst (λ (p : Place). portAt s a p .served ≡ true) (leads-place s a (Window i) d) (not-false (portAt s a (placeOf s a) .served) e))),
-    (λ f. ap not (served-at f (placeOf s a) refl)),
+    (λ e i d.
+        served-of (getD (s .values) i 0)
+        (subst (λ (o : Option ℕ). servedFrom s o ≡ true) (window-of (placeOf s a) i (leads-place s a (Window i) d))
+        (sym (ways s a (placeOf s a) .served) ∙ not-false (portAt s a (placeOf s a) .served) e))),
+    (λ f. ap not (ways s a (placeOf s a) .served ∙ of-served-at f (reachAt (placeOf s a) .window) refl)),
   )

@@ -15,7 +15,7 @@ use Rattle.bits.proofs.Bools.{and-first, and-second, every-at, pass, clash}
 use Rattle.chip.specs.declared.State.{State}
 use Rattle.chip.specs.declared.Access.{Access}
 use Rattle.chip.specs.declared.Place.{Place}
-use Rattle.chip.specs.declared.Place.the-variants.{Register, Address, PaletteData, Blank, Nowhere}
+use Rattle.chip.specs.declared.Place.the-variants.{Register, Address, PaletteData, Window, Blank, Nowhere}
 use Rattle.chip.specs.Row.{Row, absent, rowOf}
 use Rattle.chip.specs.Region.{regionRows}
 use Rattle.chip.specs.Header.{headerRows}
@@ -24,7 +24,8 @@ use Rattle.chip.specs.Bank.{bankCount, regionCount, headerCount, headerFirst, i
 use Rattle.chip.specs.Dac.{addressKnown}
 use Rattle.chip.specs.Place.{dataPlace, indexedPlace, regionPlace, headerPlace, placeAt, placeOf}
 use Rattle.chip.proofs.Computed.{computed}
-use Rattle.promises.specs.Places.{isNowhere, RowAt, Leads, address, palette, indexed, region, one, two, header, blank}
+use Rattle.promises.specs.Reach.{reachAt}
+use Rattle.promises.specs.Places.{RowAt, Leads, address, palette, indexed, region, one, two, header, blank}
 
 -- ---- a part of the bank: rows, the first one's number, and how many
 
@@ -156,11 +157,12 @@ module _ (s : State) (a : Access) where
   -- ---- and back: a place that there is
 
   abbrev Led : Place → Type 0
-  Led p = isNowhere p ≡ false → Leads s a p
+  Led p = reachAt p .here ≡ true → Leads s a p
 
   -- what stands nowhere needs no word
   nowhere : Led Nowhere
-  nowhere n = clash true refl n
+  unfolding reachAt
+  nowhere n = clash false n refl
 
   data-led : a .target ≡ 0 → a .offset ≡ 0x4008 → Led (dataPlace (s .dac))
   unfolding dataPlace addressKnown
@@ -203,5 +205,26 @@ module _ (s : State) (a : Access) where
       pick-when Led (eqb (a .target) 2) _ _ (λ t n. two (eqb-true _ 2 t)) (λ t.
       pick-when Led (eqb (a .target) 3) _ Nowhere (λ t. header-led (eqb-true _ 3 t)) (λ t. nowhere))))
 
-  pub place-leads : (p : Place) → isNowhere p ≡ false → placeOf s a ≡ p → Leads s a p
+  pub place-leads : (p : Place) → reachAt p .here ≡ true → placeOf s a ≡ p → Leads s a p
   place-leads p n e = subst Led e led n
+
+  -- each place that there is
+  pub leads-register : (i : ℕ) → placeOf s a ≡ Register i → Leads s a (Register i)
+  unfolding reachAt
+  leads-register i = place-leads (Register i) refl
+
+  pub leads-address : placeOf s a ≡ Address → Leads s a Address
+  unfolding reachAt
+  leads-address = place-leads Address refl
+
+  pub leads-palette : placeOf s a ≡ PaletteData → Leads s a PaletteData
+  unfolding reachAt
+  leads-palette = place-leads PaletteData refl
+
+  pub leads-window : (i : ℕ) → placeOf s a ≡ Window i → Leads s a (Window i)
+  unfolding reachAt
+  leads-window i = place-leads (Window i) refl
+
+  pub leads-blank : placeOf s a ≡ Blank → Leads s a Blank
+  unfolding reachAt
+  leads-blank = place-leads Blank refl

@@ -22,9 +22,11 @@ use Rattle.chip.specs.Refusal.{line, firstOf, isWrite, portOf, laterLines, acce
 use Rattle.chip.specs.Step.{Outcome, Opening, answered, refused, settled, doneBy, givenBy, stepOf, blankWord, openOf}
 use Rattle.chip.specs.Trace.{World, opened, step}
 use Rattle.promises.specs.Good.{statusAt}
-use Rattle.promises.specs.Places.{isNowhere, Leads}
+use Rattle.promises.specs.Reach.{reachAt}
+use Rattle.promises.specs.Places.{Leads}
 use Rattle.promises.specs.Refusals.{Words, Passes, state, lent, asked, aligned, found, directed, served, Fails, Panel, Memory, OpeningHas}
-use Rattle.promises.proofs.Passed.{lines, first-is, is-first, none-is, is-none, at-most, lent-test, asked-test, aligned-test, found-test, directed-test, served-test, is-write, write-is}
+use Rattle.chip.proofs.Refusals.{is-write, write-is}
+use Rattle.promises.proofs.Passed.{lines, first-is, is-first, none-is, is-none, at-most, lent-test, asked-test, aligned-test, found-test, directed-test, served-test}
 use Rattle.promises.proofs.Places.{leads-place, place-leads}
 use Rattle.promises.proofs.Promise1State.{panel-of, of-panel, memory-of, of-memory, state-means}
 use Rattle.promises.proofs.Sane.{sane}
@@ -41,7 +43,7 @@ pub write-means : (a : Access) → (isWrite a ≡ true) ↔ (a .write ≡ 0 → 
 write-means a = (is-write a, write-is a)
 
 -- a place of the definitions, other than nowhere, is where 01 says that the access leads
-pub place-means : (s : State) (a : Access) (p : Place) → isNowhere p ≡ false → (placeOf s a ≡ p) ↔ Leads s a p
+pub place-means : (s : State) (a : Access) (p : Place) → reachAt p .here ≡ true → (placeOf s a ≡ p) ↔ Leads s a p
 place-means s a p n = (place-leads s a p n, leads-place s a p)
 
 -- the tests of the table's lines

@@ -28,7 +28,6 @@ use Rattle.chip.specs.Refusal.{isWrite, portOf}
 use Rattle.chip.specs.Trace.{World, opened, step, after, run}
 use Rattle.promises.specs.Along.{lastPut}
 use Rattle.promises.specs.Good.{Good, Openable, statusAt}
-use Rattle.promises.specs.Places.{isNowhere, Leads}
 use Rattle.promises.specs.Width.{readByte, componentOf}
 use Rattle.promises.specs.History.{Accepted, seenBit, shows, partBit, spot, holds, aimPut}
 use Rattle.promises.specs.Frame.{laneAt}
@@ -36,8 +35,9 @@ use Rattle.promises.specs.Origin.{SetBy, ByteStored, ByteLent, BitStored
 use Rattle.promises.specs.Told.{Told, stored, stated, blank, address, palette, poked, lent, ShownBy}
 use Rattle.promises.proofs.Options.{absurd-put, some-is, picked}
 use Rattle.promises.proofs.Sites.{row-there, address-there}
-use Rattle.promises.proofs.Places.{leads-place, place-leads}
-use Rattle.promises.proofs.Passed.{is-read, read-is, found-test}
+use Rattle.promises.proofs.Places.{leads-place, leads-register, leads-address, leads-palette, leads-window, leads-blank}
+use Rattle.chip.proofs.Refusals.{is-read, read-is}
+use Rattle.promises.proofs.Passed.{found-test}
 use Rattle.promises.proofs.Worlds.{good-along, opened-good, opens, memory-along}
 use Rattle.promises.proofs.Shown.{found, shows-register, shows-blank, shows-address, shows-palette, shows-memory}
 use Rattle.promises.proofs.Address.{set-or-not, never-set, set-at}
@@ -123,15 +123,12 @@ module _ (w h : ℕ) (m p : List ℕ) (o : Openable w h m p) (l : List Access) (
     address-at : (u n : ℕ) → AddressSet (opened w h m p) l u n → AddressAt (x .state .dac) u n
     address-at u n f = set-at (opened w h m p) l (opened-good w h m p o) u n f
 
-    leads : (s : Place) → isNowhere s ≡ false → placeOf (x .state) a ≡ s → Leads (x .state) a s
-    leads s = place-leads (x .state) a s
-
     register-told : (r : ℕ) → placeOf (x .state) a ≡ Register r → holds (x .state) (spot r b) ≡ some v → Told (opened w h m p) l a b v
     register-told r e f = go (bit-exactly w h m p o l (spot r b) (record { row = row-there (x .state) a r e; bit = hb }) v .0 f)
       where
         go : BitStored (opened w h m p) l (spot r b) v ⊎ BitStated (opened w h m p) l (spot r b) v → Told (opened w h m p) l a b v
-        go (inl f) = stored r (leads (Register r) refl e) f
-        go (inr f) = stated r (leads (Register r) refl e) f
+        go (inl f) = stored r (leads-register (x .state) a r e) f
+        go (inr f) = stated r (leads-register (x .state) a r e) f
 
     address-told : placeOf (x .state) a ≡ Address → seenBit (bit b (x .state .dac .known)) (bit b (x .state .dac .address)) ≡ some v → Told (opened w h m p) l a b v
     address-told e f = go (set-or-not (opened w h m p) l)
@@ -142,7 +139,7 @@ module _ (w h : ℕ) (m p : List ℕ) (o : Openable w h m p) (l : List Access) (
         go : SetBy (opened w h m p) l ⊎ (lastPut after aimPut (opened w h m p) l ≡ none) → Told (opened w h m p) l a b v
         go (inl s) =
             let t = address-at (s .value) (s .steps) (s .set) in
-            address (leads Address refl e)
+            address (leads-address (x .state) a e)
             (ltb-true b 8 (sym (in-byte b hb) ∙ ap (bit b) (sym (t .known)) ∙ z .0)) (s .value) (s .steps) (s .set) (z .1 ∙ ap (bit b) (t .address))
         go (inr n) = clash false (sym (bit-of-zero b) ∙ ap (bit b) (sym (never-set w h m p o l n)) ∙ z .0) refl
 
@@ -160,7 +157,7 @@ module _ (w h : ℕ) (m p : List ℕ) (o : Openable w h m p) (l : List Access) (
         told : (c : Colour) → entryOf (x .state .palette) (x .state .dac .address) ≡ some c
             → (bit b 0xFF ≡ true) × (v ≡ bit b (readByte (x .state) (componentOf (x .state .dac .component) c))) → Told (opened w h m p) l a b v
         told c k z =
-            palette (leads PaletteData refl e) (ltb-true b 8 (sym (in-byte b hb) ∙ z .0)) (s .value) (s .steps) (s .set) c
+            palette (leads-palette (x .state) a e) (ltb-true b 8 (sym (in-byte b hb) ∙ z .0)) (s .value) (s .steps) (s .set) c
             (entry-exactly w h m p o l ((s .value + s .steps / 3) % 256) (omega arith) c .0
             (ap (entryOf (x .state .palette)) (sym (t .address)) ∙ k))
             (z .1 ∙ ap (λ (n : ℕ). bit b (readByte (x .state) (componentOf n c))) (t .component))
@@ -188,8 +185,8 @@ module _ (w h : ℕ) (m p : List ℕ) (o : Openable w h m p) (l : List Access) (
         z = sym (some-is {x = bit (b % 8) (getD (x .memory) (byte i) 0)} f)
 
         go : ByteStored (opened w h m p) l (byte i) (getD (x .memory) (byte i) 0) ⊎ ByteLent (opened w h m p) l (byte i) (getD (x .memory) (byte i) 0) → Told (opened w h m p) l a b v
-        go (inl f) = poked i (leads (Window i) refl e) (getD (x .memory) (byte i) 0) f z
-        go (inr f) = lent i (leads (Window i) refl e) (getD (x .memory) (byte i) 0) f z
+        go (inl f) = poked i (leads-window (x .state) a i e) (getD (x .memory) (byte i) 0) f z
+        go (inr f) = lent i (leads-window (x .state) a i e) (getD (x .memory) (byte i) 0) f z
 
   -- ---- both ways
 
@@ -213,7 +210,7 @@ module _ (w h : ℕ) (m p : List ℕ) (o : Openable w h m p) (l : List Access) (
       (z .0, memory-told q i e (z .1))
   told-at q Blank e f =
       let z = picked (bit (b / 8) (a .enables)) (some false) v (sym (shows-blank x a b q hb e) ∙ f) in
-      (z .0, blank (leads q Blank refl e) (sym (some-is {x = false} (z .1))))
+      (z .0, blank (leads-blank (x .state) a e) (sym (some-is {x = false} (z .1))))
   told-at q Nowhere e f = absurd (leads-on q e)
 
   -- and back

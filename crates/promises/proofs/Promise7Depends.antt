@@ -17,7 +17,7 @@ use Rattle.chip.proofs.Views.{same-view}
 use Rattle.promises.specs.Good.{Good}
 use Rattle.promises.specs.Places.{RowAt, Leads}
 use Rattle.promises.specs.View.{SameAnswer, SameWindow, command, ButRow}
-use Rattle.promises.proofs.Places.{place-leads}
+use Rattle.promises.proofs.Places.{leads-register}
 use Rattle.promises.proofs.Depends.{same-word, same-window, gates-none, same-elsewhere}
 use Rattle.promises.proofs.Promise1Refusals.{access-status}
 
@@ -44,4 +44,4 @@ command-gates-nothing x y a g h b = access-status y a ∙ gates-none x y a b g h
 
 -- .. and one that does not lead to it the same word and known mask, and it leaves the same memory
 pub command-alters-nothing : (x y : World) (a : Access) → Good x → Good y → ButRow x y command → (Leads (x .state) a (Register command) → ⊥) → SameAnswer x y a
-command-alters-nothing x y a g h b n = same-elsewhere x y a b g h (λ e. n (place-leads (x .state) a (Register command) refl e))
+command-alters-nothing x y a g h b n = same-elsewhere x y a b g h (λ e. n (leads-register (x .state) a command e))

@@ -1,13 +1,12 @@
 -- Where an access leads, in 01's words: from its target, its offset, the tables and the RAMDAC's address (01, An access and its answer, RAMDAC, Configuration
 -- header, Apertures; docs/DECISIONS.md, 1).
 use Prim.Native.Nat.{ℕ, _≤_, _<_}
-use mathlib.Core.Bool.{Bool, true, false}
 use mathlib.Core.Logic.{_⊎_}
 use mathlib.Core.Path.{_≡_}
 use Rattle.chip.specs.declared.State.{State}
 use Rattle.chip.specs.declared.Access.{Access}
 use Rattle.chip.specs.declared.Place.{Place}
-use Rattle.chip.specs.declared.Place.the-variants.{Register, Address, PaletteData, Window, Blank, Nowhere}
+use Rattle.chip.specs.declared.Place.the-variants.{Register, Address, PaletteData, Window, Blank}
 use Rattle.chip.specs.Bank.{bankCount, regionCount, headerFirst, indirectFirst, bankRow, apertureOne, apertureTwo}
 
 -- row i, of those from one number to another, is at an offset (of the indirect registers: at an index)
@@ -30,12 +29,3 @@ pub data Leads (s : State) (a : Access) : Place → Type 0 where
   -- the header, from 0 to FCh: a register, or an offset without one
   header : a .target ≡ 3 → a .offset ≤ 0xFC → (i : ℕ) → RowAt headerFirst indirectFirst i (a .offset) → Leads s a (Register i)
   blank : a .target ≡ 3 → a .offset ≤ 0xFC → ((i : ℕ) → RowAt headerFirst indirectFirst i (a .offset) → ⊥) → Leads s a Blank
-
--- the definitions' place for everything else
-abbrev pub isNowhere : Place → Bool
-isNowhere (Register i) = false
-isNowhere Address = false
-isNowhere PaletteData = false
-isNowhere (Window i) = false
-isNowhere Blank = false
-isNowhere Nowhere = true

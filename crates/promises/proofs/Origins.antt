@@ -1,18 +1,19 @@
 -- What puts something into a register's bit or a memory byte is an accepted write that reaches it, and what it puts is the write's.
 -- An access that does not reach puts nothing; what it puts is read off what it stores. Assumes nothing.
-use Prim.Native.Nat.{ℕ}
+use Prim.Native.Nat.{ℕ, zero, suc}
 use mathlib.Core.Bool.{Bool, true, _&&_}
 use mathlib.Core.List.{List}
 use mathlib.Core.Option.{Option, none, some}
 use mathlib.Core.Path.{_≡_, refl, sym, ap, ap₂, _∙_, subst}
 use borrow.Author.Tests.{eq-eqb}
-use lib.ListN.{getD, length}
+use lib.ListN.{getD, length, replicate}
 use Rattle.bits.specs.Bit.{bit}
 use Rattle.bits.proofs.Cases.{byTest}
 use Rattle.bits.proofs.Bools.{and-first, and-second}
 use Rattle.chip.specs.declared.State.{State}
 use Rattle.chip.specs.declared.Access.{Access}
 use Rattle.chip.specs.declared.Place.the-variants.{Window}
+use Rattle.chip.specs.Palette.{entryCount, emptyPalette, entryOf}
 use Rattle.chip.specs.Place.{placeOf}
 use Rattle.chip.specs.Refusal.{isWrite}
 use Rattle.chip.specs.State.{resetState}
@@ -32,12 +33,23 @@ use Rattle.promises.proofs.Address.{run-runs}
 
 -- ---- what the reset tables state
 
-reset-holds : (w h f : ℕ) (q : Spot) → holds (resetState w h f) q ≡ stated q
+pub reset-holds : (w h f : ℕ) (q : Spot) → holds (resetState w h f) q ≡ stated q
 unfolding holds stated resetState
 reset-holds w h f q = ap₂ (λ (k v : ℕ). seenBit (bit (q .b) k) (bit (q .b) v)) (knowns-at (q .row)) (resets-at (q .row))
 
 pub opened-holds : (w h : ℕ) (m p : List ℕ) → Openable w h m p → (q : Spot) → holds (opened w h m p .state) q ≡ stated q
 opened-holds w h m p o q = ap (λ (s : State). holds s q) (opens w h m p (o .accepted) .state) ∙ reset-holds w h (length m) q
+
+-- an empty palette has no entry
+zeros-at : (n k : ℕ) → _≡_ {A = ℕ} (getD (replicate n 0) k 0) 0
+zeros-at zero zero = refl
+zeros-at zero (suc k) = refl
+zeros-at (suc n) zero = refl
+zeros-at (suc n) (suc k) = zeros-at n k
+
+pub reset-entry : (w h f e : ℕ) → entryOf (resetState w h f .palette) e ≡ none
+unfolding resetState emptyPalette entryOf
+reset-entry w h f e = simp (zeros-at entryCount e)
 
 -- ---- a register's bit
 

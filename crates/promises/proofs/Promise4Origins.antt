@@ -1,14 +1,14 @@
 -- Promise 4. Where a known bit comes from, after an opening and any list of accesses: the reset tables, PCI's rule for offsets without a register, memory as
 -- lent, accepted writes of the list, and the palette address since it was set; nothing else is ever shown as known, and each has the value last stored.
 -- From the law of a place along any list (Along), one step at a time (Contents), and what a read shows (Shown). Assumes nothing.
-use Prim.Native.Nat.{ℕ, zero, suc, _/_, _+_, _%_, _<_}
+use Prim.Native.Nat.{ℕ, zero, _/_, _+_, _%_, _<_}
 use mathlib.Core.Bool.{Bool, false}
 use mathlib.Core.List.{List, []}
 use mathlib.Core.Logic.{_↔_, _⊎_, inl, inr}
 use mathlib.Core.Option.{Option, none, some, Option·getD}
-use mathlib.Core.Path.{_≡_, refl, sym, ap, _∙_}
+use mathlib.Core.Path.{_≡_, sym, ap, _∙_}
 use native.Mathlib.Omega.{arith}
-use lib.ListN.{getD, length, replicate}
+use lib.ListN.{getD, length}
 use Rattle.bits.specs.Choose.{pick}
 use Rattle.bits.specs.Bit.{bit}
 use Rattle.chip.specs.declared.State.{State}
@@ -16,7 +16,7 @@ use Rattle.chip.specs.declared.Access.{Access}
 use Rattle.chip.specs.declared.Colour.{Colour}
 use Rattle.chip.specs.declared.Place.the-variants.{Register, Address, PaletteData, Window, Blank}
 use Rattle.chip.specs.Bank.{indirectAt}
-use Rattle.chip.specs.Palette.{entryCount, emptyPalette, entryOf}
+use Rattle.chip.specs.Palette.{entryCount, entryOf}
 use Rattle.chip.specs.Dac.{resetDac}
 use Rattle.chip.specs.State.{resetState}
 use Rattle.chip.specs.Place.{placeOf}
@@ -35,18 +35,7 @@ use Rattle.promises.proofs.Moves.{bit-step}
 use Rattle.promises.proofs.Shown.{found, shows-register, shows-blank, shows-address, shows-palette, shows-memory}
 use Rattle.promises.proofs.Address.{run-runs, set-or-not, set-at, never-set}
 use Rattle.promises.proofs.Loads.{loaded, of-loaded, never-loaded, of-unloaded}
-use Rattle.promises.proofs.Origins.{opened-holds, bit-stored, stored-bit, byte-stored, stored-byte}
-
--- an empty palette has no entry
-zeros-at : (n k : ℕ) → _≡_ {A = ℕ} (getD (replicate n 0) k 0) 0
-zeros-at zero zero = refl
-zeros-at zero (suc k) = refl
-zeros-at (suc n) zero = refl
-zeros-at (suc n) (suc k) = zeros-at n k
-
-reset-entry : (w h f e : ℕ) → entryOf (resetState w h f .palette) e ≡ none
-unfolding resetState emptyPalette entryOf
-reset-entry w h f e = simp (zeros-at entryCount e)
+use Rattle.promises.proofs.Origins.{opened-holds, reset-entry, bit-stored, stored-bit, byte-stored, stored-byte}
 
 module _ (w h : ℕ) (m p : List ℕ) (o : Openable w h m p) (l : List Access) where
   good : Good (run (opened w h m p) l)

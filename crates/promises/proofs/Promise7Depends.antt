@@ -2,20 +2,17 @@
 -- aperture access on its own control register alone; no access on the command register. From the laws of Depends. Assumes nothing.
 use Prim.Native.Nat.{ℕ}
 use mathlib.Core.List.{List}
-use mathlib.Core.Path.{_≡_, refl, sym, _∙_}
-use native.Mathlib.Omega.{arith}
+use mathlib.Core.Path.{_≡_, sym, _∙_}
 use Rattle.chip.specs.declared.State.{State}
 use Rattle.chip.specs.declared.Access.{Access}
 use Rattle.chip.specs.declared.Place.the-variants.{Register, Window}
-use Rattle.chip.specs.Bank.{headerFirst, indirectFirst}
 use Rattle.chip.specs.Place.{placeOf}
 use Rattle.chip.specs.View.{viewOf, SameView}
 use Rattle.chip.specs.Picture.{wordOf}
 use Rattle.chip.specs.Trace.{World, step}
-use Rattle.chip.proofs.Computed.{computed}
 use Rattle.chip.proofs.Views.{same-view}
 use Rattle.promises.specs.Good.{Good}
-use Rattle.promises.specs.Places.{RowAt, Leads}
+use Rattle.promises.specs.Places.{Leads}
 use Rattle.promises.specs.View.{SameAnswer, SameWindow, command, ButRow}
 use Rattle.promises.proofs.Places.{leads-register}
 use Rattle.promises.proofs.Depends.{same-word, same-window, gates-none, same-elsewhere}
@@ -33,12 +30,7 @@ view-depends = same-view
 pub aperture-depends : (x y : World) (a : Access) (i : ℕ) → Good x → Good y → placeOf (x .state) a ≡ Window i → SameWindow x y i → SameAnswer x y a
 aperture-depends = same-window
 
--- the command register stands at 04h of the header ..
-pub command-there : RowAt headerFirst indirectFirst command 0x04
-unfolding computed
-command-there = record { least = omega arith; below = omega arith; offset = refl }
-
--- .. and its enable bits gate no access, at any target: with any other word in it every access has the same status ..
+-- the command register's enable bits gate no access, at any target: with any other word in it every access has the same status ..
 pub command-gates-nothing : (x y : World) (a : Access) → Good x → Good y → ButRow x y command → step y a .answer .status ≡ step x a .answer .status
 command-gates-nothing x y a g h b = access-status y a ∙ gates-none x y a b g h ∙ sym (access-status x a)
 

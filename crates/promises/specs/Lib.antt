@@ -5,6 +5,7 @@ pub mod Width
 pub mod History
 pub mod Frame
 pub mod View
+pub mod Reset
 pub mod Dots
 pub mod Loads
 pub mod Origin

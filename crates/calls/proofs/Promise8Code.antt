@@ -17,8 +17,8 @@ use Rattle.chip.specs.Palette.{entryCount, entryOf}
 use Rattle.chip.specs.State.{resetState}
 use Rattle.chip.specs.Sound.{isState}
 use Rattle.chip.specs.Place.{placeOf}
-use Rattle.chip.specs.Picture.{diffs, drawn, wordOf}
-use Rattle.chip.specs.Step.{answered, openOf}
+use Rattle.chip.specs.Picture.{drawn, wordOf}
+use Rattle.chip.specs.Step.{openOf}
 use Rattle.chip.specs.Trace.{World, opened, step, after, run}
 use Rattle.promises.specs.Good.{AreBytes, Good, Openable}
 use Rattle.promises.specs.Places.{Leads}
@@ -28,10 +28,10 @@ use Rattle.promises.specs.Refusals.{Words, Passes, Fails, OpeningHas}
 use Rattle.promises.specs.Origin.{BitStored, BitStated, ByteStored, ByteLent}
 use Rattle.promises.specs.Loads.{Loaded}
 use Rattle.promises.specs.Told.{Told, ShownBy}
-use Rattle.promises.specs.Dots.{Ruled}
+use Rattle.promises.specs.Dots.{Ruled, dotsChanged}
 use Rattle.promises.specs.View.{SameWindow, command, ButRow}
 use Rattle.promises.proofs.Promise1Refusals.{access-status, access-refused, access-done, status-among, refused-alters-nothing, opening-refused, refused-opening}
-use Rattle.promises.proofs.Promise2States.{opening-gives, access-good, always-state}
+use Rattle.promises.proofs.Promise2States.{opening-gives, access-good, access-words, always-good, always-words, always-state}
 use Rattle.promises.proofs.Promise3Only.{bits-move, bits-stay, without-lane-0, zero-where-unknown}
 use Rattle.promises.proofs.Promise4Origins.{bit-exactly, byte-exactly, entry-exactly}
 use Rattle.promises.proofs.Promise4Known.{known-exactly}
@@ -61,16 +61,20 @@ module _ (x : World) (a : Access) (r : Answer) (y : World) (c : Called x a r y) 
 
   -- a refused one returns zero data, and state, memory and picture are as they were
   pub call-refused-alters-nothing : (r .status ≡ 0 → ⊥)
-      → (r ≡ answered (r .status) 0 0 0 (x .state)) × (y .state ≡ x .state) × (y .memory ≡ x .memory) × (y .picture ≡ x .picture)
+      → (y .state ≡ x .state) × (y .memory ≡ x .memory) × (y .picture ≡ x .picture) × (r .word ≡ 0) × (r .known ≡ 0) × (r .changed ≡ 0) × (r .state ≡ x .state)
   call-refused-alters-nothing =
       of-call
       (λ (q : Answer) (z : World).
-      (q .status ≡ 0 → ⊥) → (q ≡ answered (q .status) 0 0 0 (x .state)) × (z .state ≡ x .state) × (z .memory ≡ x .memory) × (z .picture ≡ x .picture))
-      (λ d. let z = refused-alters-nothing x a d in (z .0, ap (λ (t : Answer). t .state) (z .0), z .1, z .2))
+      (q .status ≡ 0 → ⊥)
+      → (z .state ≡ x .state) × (z .memory ≡ x .memory) × (z .picture ≡ x .picture) × (q .word ≡ 0) × (q .known ≡ 0) × (q .changed ≡ 0) × (q .state ≡ x .state))
+      (λ d. let z = refused-alters-nothing x a d in (z .state, z .memory, z .picture, z .word, z .known, z .changed, z .state))
 
-  -- demand 2: a state stays one, with buffers of its sizes ..
+  -- demand 2: a state stays one, with buffers of its sizes and numbers that are words ..
   pub call-good : Good x → Good y
   call-good g = of-call (λ (q : Answer) (z : World). Good z) (access-good x a g)
+
+  pub call-words : Good x → Words (x .state) → Words (y .state)
+  call-words g k = of-call (λ (q : Answer) (z : World). Words (z .state)) (access-words x a g k)
 
   -- .. what it moves takes the word's bit, and every other stays ..
   pub call-bits-move : Good x → (q : Spot) → Real q → moves x a q ≡ true → holds (y .state) q ≡ some (broughtBit q a)
@@ -93,8 +97,8 @@ module _ (x : World) (a : Access) (r : Answer) (y : World) (c : Called x a r y) 
   call-zero-where-unknown b = of-call (λ (q : Answer) (z : World). bit b (q .known) ≡ false → bit b (q .word) ≡ false) (zero-where-unknown x a b)
 
   -- demand 3: the changed count is the number of dots that differ from before; the buffers keep their lengths
-  pub call-counts : r .changed ≡ diffs (x .picture) (y .picture)
-  call-counts = of-call (λ (q : Answer) (z : World). q .changed ≡ diffs (x .picture) (z .picture)) (count-right x a)
+  pub call-counts : r .changed ≡ dotsChanged (x .picture) (y .picture)
+  call-counts = of-call (λ (q : Answer) (z : World). q .changed ≡ dotsChanged (x .picture) (z .picture)) (count-right x a)
 
   pub call-lengths : (length (y .memory) ≡ length (x .memory)) × (length (y .picture) ≡ length (x .picture))
   call-lengths = of-call (λ (q : Answer) (z : World). (length (z .memory) ≡ length (x .memory)) × (length (z .picture) ≡ length (x .picture))) (lengths-stay x a)
@@ -189,6 +193,9 @@ module _ (w h : ℕ) (m p : List ℕ) (r : Opened) (x : World) (c : OpenCalled w
       openable = record { accepted = told w h m p r x c o; bytes = k }
 
       -- a state is never lost
+      pub calls-good : Good z × Words (z .state)
+      calls-good = promised (λ (u : World). Good u × Words (u .state)) (always-good w h m p openable l, always-words w h m p openable l)
+
       pub calls-state : isState (z .state) ≡ true
       calls-state = promised (λ (u : World). isState (u .state) ≡ true) (always-state w h m p openable l)
 

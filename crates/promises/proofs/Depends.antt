@@ -15,7 +15,6 @@ use Rattle.bits.proofs.Cases.{byTest}
 use Rattle.chip.specs.declared.State.{State}
 use Rattle.chip.specs.declared.Access.{Access}
 use Rattle.chip.specs.declared.Dac.{Dac}
-use Rattle.chip.specs.declared.Answer.{Answer}
 use Rattle.chip.specs.declared.Seen.{Seen}
 use Rattle.chip.specs.declared.Place.{Place}
 use Rattle.chip.specs.declared.Place.the-variants.{Register, Address, PaletteData, Window, Blank, Nowhere}
@@ -31,7 +30,7 @@ use Rattle.chip.specs.Trace.{World, step, after}
 use Rattle.promises.specs.Good.{Good, statusAt}
 use Rattle.promises.specs.Reach.{reachAt}
 use Rattle.promises.specs.Places.{Leads, one, two}
-use Rattle.promises.specs.History.{accepted, Accepted}
+use Rattle.promises.specs.History.{accepted, AcceptedRead}
 use Rattle.promises.specs.View.{SameAnswer, SameWindow, command, ButRow}
 use Rattle.promises.proofs.Does.{putsFrom, fitsFrom, servedFrom, ways, does}
 use Rattle.promises.proofs.Sites.{names, window-there}
@@ -86,8 +85,8 @@ silent-write x a w = let z = write-answers x a w in record { word = z .0; known 
 
 silent-refused : (x : World) (a : Access) → (statusAt x a ≡ 0 → ⊥) → Silent x a
 silent-refused x a n =
-    let z = refused-alters-nothing x a (λ e. n (sym (access-status x a) ∙ e)) .0 in
-    record { word = ap (λ (r : Answer). r .word) z; known = ap (λ (r : Answer). r .known) z }
+    let z = refused-alters-nothing x a (λ e. n (sym (access-status x a) ∙ e)) in
+    record { word = z .word; known = z .known }
 
 module _ (x y : World) (a : Access) (p : Place) (g : Good x) (h : Good y) (e : placeOf (x .state) a ≡ p) (f : placeOf (y .state) a ≡ p) where
   same-status : SameWays x y a p → statusAt y a ≡ statusAt x a
@@ -105,7 +104,7 @@ module _ (x y : World) (a : Access) (p : Place) (g : Good x) (h : Good y) (e : p
       ∙ ap (putAll (z .memory)) (does z a .puts ∙ ap (λ (r : Place). pick (accepted z a && isWrite a) (putsFrom (z .state) a (reachAt r .window)) []) k)
 
   -- a read of both, or neither an answer
-  by-way : (P : Type 0) → statusAt y a ≡ statusAt x a → (Accepted x a → Accepted y a → P) → (Silent x a → Silent y a → P) → P
+  by-way : (P : Type 0) → statusAt y a ≡ statusAt x a → (AcceptedRead x a → AcceptedRead y a → P) → (Silent x a → Silent y a → P) → P
   by-way P n r s =
       byTest (isWrite a)
       (λ w. s (silent-write x a w) (silent-write y a w))

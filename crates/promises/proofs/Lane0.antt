@@ -1,21 +1,20 @@
 -- Without lane 0 a RAMDAC access that is not refused alters nothing, and answers word 0 and known 0.
 -- The RAMDAC's registers have eight bits that a write may change or that are known, all of lane 0; the address and palette data ask for lane 0. Assumes nothing.
-use Prim.Native.Nat.{ℕ, zero, suc, _/_, _^_, _≤_, _<_}
+use Prim.Native.Nat.{ℕ, _/_, _≤_, _<_}
 use mathlib.Core.Bool.{Bool, true, false, not, _&&_}
-use mathlib.Core.List.{List, [], _∷_}
 use mathlib.Core.Option.{Option, none, some}
-use mathlib.Core.Path.{_≡_, refl, sym, ap, _∙_, subst}
+use mathlib.Core.Path.{_≡_, refl, _∙_}
 use native.Mathlib.Omega.{arith}
 use borrow.Author.Tests.{eqb-true, le-leb, ltb-true, ltb-false, lt-ltb, le-ltb, not-true}
 use lib.Dec.{eqb, leb, ltb}
-use lib.ListN.{getD, set}
+use lib.ListN.{getD}
 use Rattle.bits.specs.Choose.{pick, everyTo}
 use Rattle.bits.specs.Bit.{bit}
-use Rattle.bits.specs.Word.{joined, merged, lanesOf}
-use Rattle.bits.proofs.Cases.{byTest, pick-by, pick-same}
+use Rattle.bits.specs.Word.{lanesOf}
+use Rattle.bits.proofs.Cases.{byTest}
 use Rattle.bits.proofs.Bools.{and-false, and-first, and-second, or-false, every-at}
-use Rattle.bits.proofs.Single.{bit-of-zero, by-bits, no-bits}
-use Rattle.bits.proofs.Words.{bit-inside, bit-joined, bit-merged, inside-le, inside-lt-left, outside-lt, joined-lt, lane-bit, lanes-lt}
+use Rattle.bits.proofs.Single.{bit-of-zero, no-bits}
+use Rattle.bits.proofs.Words.{bit-inside, bit-joined, inside-le, inside-lt-left, lane-bit, lanes-lt}
 use Rattle.bits.proofs.Lanes.{bit-high}
 use Rattle.chip.specs.declared.State.{State}
 use Rattle.chip.specs.declared.Access.{Access}
@@ -23,28 +22,24 @@ use Rattle.chip.specs.declared.Colour.{Colour}
 use Rattle.chip.specs.declared.Place.{Place}
 use Rattle.chip.specs.declared.Place.the-variants.{Register, Address, PaletteData, Window, Blank, Nowhere}
 use Rattle.chip.specs.Bank.{bankCount, regionCount, indirectFirst, bankRow, subsystem}
-use Rattle.chip.specs.Aperture.{putAll}
-use Rattle.chip.specs.Register.{movedBits, broughtWord}
+use Rattle.chip.specs.Register.{movedBits}
 use Rattle.chip.specs.Subsystem.{storedBits, fixedBy}
-use Rattle.chip.specs.Patch.{Patch, Store, valued, learned, applied, memoryWith}
 use Rattle.chip.specs.Place.{placeAt, placeOf}
 use Rattle.chip.specs.Palette.{entryOf}
-use Rattle.chip.specs.Port.{seenPart, knownIn, wordIn, wide, rowPatch, portAt}
+use Rattle.chip.specs.Port.{seenPart, knownIn, wordIn, wide, portAt}
 use Rattle.chip.specs.Refusal.{isWrite, portOf}
-use Rattle.chip.specs.Trace.{World, step, after}
+use Rattle.chip.specs.Trace.{World, step}
 use Rattle.chip.proofs.Computed.{computed}
 use Rattle.promises.specs.Good.{Good, statusAt}
 use Rattle.promises.specs.Reach.{reachAt}
 use Rattle.promises.specs.Places.{Leads, address, palette, indexed, region, one, two, header, blank}
-use Rattle.promises.specs.History.{Accepted, isAim, isData}
+use Rattle.promises.specs.History.{AcceptedRead, isAim, isData}
 use Rattle.promises.specs.Refusals.{freeBit, IsState, Words}
-use Rattle.promises.specs.View.{StepsOnly, Idle}
-use Rattle.promises.proofs.Patches.{patchAt}
-use Rattle.promises.proofs.Does.{storeFrom, onceFrom, putsFrom, writes, does}
+use Rattle.promises.specs.View.{Idle}
 use Rattle.promises.proofs.Promise1State.{state-means}
-use Rattle.promises.proofs.Worlds.{after-state, after-memory}
 use Rattle.promises.proofs.Shown.{enables-lt, sees, answer-word, answer-known}
-use Rattle.promises.proofs.Answers.{write-answers, still-picture}
+use Rattle.promises.proofs.Answers.{write-answers}
+use Rattle.promises.proofs.Idle.{StoresNone, idle-by}
 use Rattle.promises.proofs.Sites.{names, region-plain}
 use Rattle.promises.proofs.Places.{leads-register, leads-window, leads-blank}
 
@@ -125,27 +120,6 @@ module _ (i : ℕ) (r : OfByte i) (e word : ℕ) (l : bit 0 e ≡ false) (he : e
       simp (bit-inside, bit-joined, r .clears, bit-of-zero b, or-false)
       (outside-lane e b (bankRow i .writable) l he hb (r .writable))))
 
-merged-lt : (v w : ℕ) → merged v w 0 < 2 ^ 32
-unfolding merged
-merged-lt v w = joined-lt _ _ (outside-lt v 0) (let z = inside-le w 0 in omega arith)
-
-merged-zero : (v w : ℕ) → v < 2 ^ 32 → merged v w 0 ≡ v
-merged-zero v w h = by-bits 32 _ _ (merged-lt v w) h (λ b hb. bit-merged b v w 0 hb (omega arith) ∙ simp (bit-of-zero b))
-
-joined-none : (v : ℕ) → v < 2 ^ 32 → joined v 0 ≡ v
-joined-none v h = by-bits 32 _ _ (joined-lt v 0 h (omega arith)) h (λ b hb. bit-joined b v 0 ∙ simp (bit-of-zero b) (or-false (bit b v)))
-
-set-same : (l : List ℕ) (i : ℕ) → set l i (getD l i 0) ≡ l
-set-same [] i = refl
-set-same (x ∷ l) zero = refl
-set-same (x ∷ l) (suc i) = ap (λ (k : List ℕ). x ∷ k) (set-same l i)
-
--- a patch that stores nothing of anything leaves a state
-quiet : (p : Patch) (s : State) → valued (p .store) (s .values) ≡ s .values → learned (p .store) (s .knowns) ≡ s .knowns → p .once ≡ none → p .dac ≡ none
-    → p .paint ≡ none → applied p s ≡ s
-unfolding applied
-quiet p s v k o d q = simp (v, k, o, d, q)
-
 module _ (x : World) (a : Access) (h : Words (x .state)) (t : a .target ≡ 0) (f : 0x4000 ≤ a .offset) (d : statusAt x a ≡ 0) (l : bit 0 (a .enables) ≡ false) where
   aim-off : isAim x a ≡ false
   unfolding isAim
@@ -158,45 +132,19 @@ module _ (x : World) (a : Access) (h : Words (x .state)) (t : a .target ≡ 0) (
   row-of : (i : ℕ) → reachAt (placeOf (x .state) a) .row ≡ some i → OfByte i
   row-of i e = ramdac-row (x .state) a t f i (names (placeOf (x .state) a) .row i e)
 
-  zero-bits : (i : ℕ) → reachAt (placeOf (x .state) a) .row ≡ some i → storedBits (x .state .once) i (a .enables) (a .word) ≡ 0
-  zero-bits i e = none-moved i (row-of i e) (a .enables) (a .word) l (enables-lt (x .state) _ _ a d) (x .state .once)
+  none-fixed : (i once e : ℕ) → OfByte i → fixedBy once i e ≡ none
+  unfolding fixedBy
+  none-fixed i once e r = simp (r .plain)
 
-  keeps-values : (o : Option ℕ) → reachAt (placeOf (x .state) a) .row ≡ o → valued (storeFrom (x .state) a o) (x .state .values) ≡ x .state .values
-  unfolding rowPatch
-  keeps-values none e = refl
-  keeps-values (some i) e =
-      simp (zero-bits i e, merged-zero (getD (x .state .values) i 0) (broughtWord (bankRow i) (a .word)) (h .values i)) (set-same (x .state .values) i)
-
-  keeps-knowns : (o : Option ℕ) → reachAt (placeOf (x .state) a) .row ≡ o → learned (storeFrom (x .state) a o) (x .state .knowns) ≡ x .state .knowns
-  unfolding rowPatch
-  keeps-knowns none e = refl
-  keeps-knowns (some i) e = simp (zero-bits i e, joined-none (getD (x .state .knowns) i 0) (h .knowns i)) (set-same (x .state .knowns) i)
-
-  fixes-none : (o : Option ℕ) → reachAt (placeOf (x .state) a) .row ≡ o → onceFrom (x .state) a o ≡ none
-  unfolding rowPatch fixedBy
-  fixes-none none e = refl
-  fixes-none (some i) e = simp (row-of i e .plain)
-
-  same-state : after x a .state ≡ x .state
-  same-state =
-      let z = does x a in
-      after-state x a
-      ∙ quiet (patchAt x a) (x .state)
-      (ap (λ (o : Option Store). valued o (x .state .values)) (z .store) ∙ pick-by (λ (o : Option Store). valued o (x .state .values) ≡ x .state .values) (writes x a) _ none (keeps-values _ refl) refl)
-      (ap (λ (o : Option Store). learned o (x .state .knowns)) (z .store) ∙ pick-by (λ (o : Option Store). learned o (x .state .knowns) ≡ x .state .knowns) (writes x a) _ none (keeps-knowns _ refl) refl)
-      (z .once ∙ pick-by (λ (o : Option ℕ). o ≡ none) (writes x a) _ none (fixes-none _ refl) refl)
-      (z .dac ∙ simp (aim-off, data-off))
-      (z .paint ∙ simp (data-off, and-false))
-
-  same-memory : after x a .memory ≡ x .memory
-  unfolding memoryWith
-  same-memory =
-      after-memory x a
-      ∙ ap (putAll (x .memory))
-      (does x a .puts ∙ ap (λ (o : Option ℕ). pick (writes x a) (putsFrom (x .state) a o) []) (ramdac-plain (x .state) a t f) ∙ pick-same (writes x a) [])
-
-  same-picture : after x a .picture ≡ x .picture
-  same-picture = still-picture x a (subst (StepsOnly (x .state)) (sym same-state) (record { width = refl; height = refl; fitted = refl; once = refl; values = refl; knowns = refl; palette = refl })) same-memory
+  stores-none : StoresNone x a
+  stores-none =
+      record {
+        bits = λ i e w. none-moved i (row-of i e) (a .enables) (a .word) l (enables-lt (x .state) _ _ a d) (x .state .once);
+        flags = λ i e w. none-fixed i (x .state .once) (a .enables) (row-of i e);
+        aim = aim-off;
+        paint = data-off;
+        bytes = λ w. ramdac-plain (x .state) a t f;
+      }
 
   -- ---- what it answers
 
@@ -249,11 +197,11 @@ module _ (x : World) (a : Access) (h : Words (x .state)) (t : a .target ≡ 0) (
         byTest (isWrite a)
         (λ w. write-answers x a w .0)
         (λ w.
-        let q : Accepted x a = record { read = w; done = d } in
+        let q : AcceptedRead x a = record { read = w; done = d } in
         let z = inside-le (sees x a .value) (knownIn (sees x a) (a .enables)) in
         let y = answer-known x a q in
         let v = answer-word x a q in
         omega (arith, nothing-known))
 
     pub idle : Idle x a
-    idle = record { state = same-state; memory = same-memory; picture = same-picture; word = nothing-shown; known = nothing-known }
+    idle = idle-by x a h stores-none nothing-shown nothing-known

@@ -23,6 +23,8 @@ pub mod MemoryBytes
 pub mod Pictures
 pub mod Dots
 pub mod Answers
+pub mod WordsKept
+pub mod Idle
 pub mod Lane0
 pub mod Depends
 pub mod Worked
@@ -30,8 +32,10 @@ pub mod Origins
 pub mod Promise1State
 pub mod Promise1Refusals
 pub mod Promise2States
+pub mod Promise2Tables
 pub mod Promise3Only
 pub mod Promise4Origins
+pub mod Promise4Reads
 pub mod Promise4Known
 pub mod Promise5Picture
 pub mod Promise6Altered

@@ -5,26 +5,29 @@ use mathlib.Core.Bool.{Bool, true, false, _&&_, _||_}
 use mathlib.Core.Option.{Option, none, some, Option·getD}
 use mathlib.Core.Path.{_≡_, refl, sym, ap, _∙_, subst}
 use native.Mathlib.Omega.{arith}
-use borrow.Author.Tests.{ltb-true, ltb-false}
+use borrow.Author.Tests.{eqb-true, eq-eqb, ne-eqb, ltb-true, ltb-false}
 use lib.Dec.{eqb, ltb}
 use Rattle.bits.specs.Choose.{pick}
 use Rattle.bits.specs.Word.{laneByte}
+use Rattle.bits.proofs.Bools.{and-first, and-second}
 use Rattle.bits.proofs.Cases.{byTest, pick-by}
 use Rattle.chip.specs.declared.Access.{Access}
 use Rattle.chip.specs.declared.Colour.{Colour}
 use Rattle.chip.specs.declared.Dac.{Dac}
 use Rattle.chip.specs.Palette.{entryCount, entryOf}
-use Rattle.chip.specs.Dac.{aimedAt, advanced, afterPeek, bothStaged, completedBy}
+use Rattle.chip.specs.Dac.{aimedAt, advanced, afterPeek, redStaged, bothStaged, afterPaint, completedBy}
+use Rattle.chip.specs.Port.{keptFrom}
 use Rattle.chip.specs.Refusal.{isWrite}
 use Rattle.chip.specs.Trace.{World, after}
 use Rattle.promises.specs.Good.{Good}
+use Rattle.promises.specs.Width.{storedByte}
 use Rattle.promises.specs.History.{isData, isAim}
-use Rattle.promises.specs.Frame.{Aimed, Advanced, completes, madeColour}
+use Rattle.promises.specs.Frame.{Aimed, Advanced, Stages, completes, madeColour}
 use Rattle.promises.specs.Loads.{disturbs}
 use Rattle.promises.proofs.Widths.{kept-told}
 use Rattle.promises.proofs.Patches.{putsEntry, entryPut}
 use Rattle.promises.proofs.Dacs.{paint-advances}
-use Rattle.promises.proofs.Does.{does}
+use Rattle.promises.proofs.Does.{stepped, does}
 use Rattle.promises.proofs.Contents.{entry-step}
 use Rattle.promises.proofs.Address.{dac-step, component-le, data-not-aim}
 
@@ -73,6 +76,35 @@ data-after x a g t =
     (pick-by (Advanced (x .state .dac)) (isWrite a) _ _
     (paint-advances (Advanced (x .state .dac)) (x .state .dac) _ (λ n r g. advanced-is (x .state .dac) n r g hc ha))
     (advanced-is (x .state .dac) 0 0 0 hc ha))
+
+-- what is staged after it
+dac-after : (x : World) (a : Access) → isData x a ≡ true → after x a .state .dac ≡ stepped (x .state) a
+dac-after x a t = dac-step x a ∙ ap (λ (o : Option Dac). Option·getD o (x .state .dac)) (simp (t, data-not-aim x a t) at (does x a .dac))
+
+advanced-stage : (d : Dac) (n r g : ℕ) → (advanced d n r g .staged ≡ n) × (advanced d n r g .red ≡ r) × (advanced d n r g .green ≡ g)
+unfolding advanced
+advanced-stage d n r g = byTest (ltb (d .component) 2) (λ q. simp q (refl, refl, refl)) (λ q. simp q (refl, refl, refl))
+
+painted-stages : (d : Dac) (v : ℕ) → Stages d (afterPaint d v) v
+unfolding afterPaint redStaged
+painted-stages d v =
+    record {
+      red = λ e. simp (eq-eqb (d .component) 0 e) (let z = advanced-stage d 1 v 0 in (z .0, z .1));
+      green = λ e s. simp (e, s) (let z = advanced-stage d 2 (d .red) v in (z .0, z .1, z .2));
+      drops = λ n m. drop n (byTest (eqb (d .component) 1 && eqb (d .staged) 1) (λ q. absurd (m (eqb-true _ 1 (and-first (eqb (d .component) 1) _ q)) (eqb-true _ 1 (and-second (eqb (d .component) 1) _ q)))) (λ q. q));
+    }
+  where
+    drop : (d .component ≡ 0 → ⊥) → (eqb (d .component) 1 && eqb (d .staged) 1) ≡ false → afterPaint d v .staged ≡ 0
+    drop n q = simp (ne-eqb (d .component) 0 n, q) (advanced-stage d 0 0 0 .0)
+
+pub stages-after : (x : World) (a : Access) → isData x a ≡ true → isWrite a ≡ true → Stages (x .state .dac) (after x a .state .dac) (storedByte (x .state) (laneByte 0 (a .word)))
+stages-after x a t w =
+    subst (λ (n : Dac). Stages (x .state .dac) n (storedByte (x .state) (laneByte 0 (a .word)))) (sym (dac-after x a t ∙ simp w))
+    (subst (λ (v : ℕ). Stages (x .state .dac) (afterPaint (x .state .dac) (keptFrom (x .state) a)) v) (kept-told (x .state) a) (painted-stages (x .state .dac) (keptFrom (x .state) a)))
+
+pub drops-after : (x : World) (a : Access) → isData x a ≡ true → isWrite a ≡ false → after x a .state .dac .staged ≡ 0
+unfolding afterPeek
+drops-after x a t w = ap (λ (n : Dac). n .staged) (dac-after x a t) ∙ simp w (advanced-stage (x .state .dac) 0 0 0 .0)
 
 -- anything else
 pub calm-after : (x : World) (a : Access) → disturbs x a ≡ false → after x a .state .dac ≡ x .state .dac

@@ -19,11 +19,12 @@ use Rattle.chip.specs.Place.{placeOf}
 use Rattle.chip.specs.State.{resetState}
 use Rattle.chip.specs.Sound.{panelOk, memoryOk, isState}
 use Rattle.chip.specs.Refusal.{line, firstOf, isWrite, portOf, laterLines, accessLines, statusOf, openingLines, openingStatus}
-use Rattle.chip.specs.Step.{Outcome, Opening, answered, refused, settled, doneBy, givenBy, stepOf, blankWord, openOf}
+use Rattle.chip.specs.Step.{Outcome, Opening, refused, settled, doneBy, givenBy, stepOf, blankWord, openOf}
 use Rattle.chip.specs.Trace.{World, opened, step}
 use Rattle.promises.specs.Good.{statusAt}
 use Rattle.promises.specs.Reach.{reachAt}
 use Rattle.promises.specs.Places.{Leads}
+use Rattle.promises.specs.View.{Idle}
 use Rattle.promises.specs.Refusals.{Words, Passes, state, lent, asked, aligned, found, directed, served, Fails, Panel, Memory, OpeningHas}
 use Rattle.chip.proofs.Refusals.{is-write, write-is}
 use Rattle.promises.proofs.Passed.{lines, first-is, is-first, none-is, is-none, at-most, lent-test, asked-test, aligned-test, found-test, directed-test, served-test}
@@ -125,13 +126,18 @@ unfolding stepOf givenBy
 refused-is x a d = simp (ne-eqb (statusAt x a) 0 d)
 
 -- then it returns zero data, and state, memory and picture are as they were
-pub refused-alters-nothing : (x : World) (a : Access) → (step x a .answer .status ≡ 0 → ⊥)
-    → (step x a .answer ≡ answered (step x a .answer .status) 0 0 0 (x .state)) × (step x a .memory ≡ x .memory) × (step x a .picture ≡ x .picture)
+pub refused-alters-nothing : (x : World) (a : Access) → (step x a .answer .status ≡ 0 → ⊥) → Idle x a
 unfolding refused
 refused-alters-nothing x a d =
-    let n : statusAt x a ≡ 0 → ⊥ = λ e. d (access-status x a ∙ e) in
-    let e = refused-is x a n in
-    (ap (λ (o : Outcome). o .answer) e ∙ ap (λ (k : ℕ). answered k 0 0 0 (x .state)) (sym (access-status x a)), ap (λ (o : Outcome). o .memory) e, ap (λ (o : Outcome). o .picture) e)
+    let e = refused-is x a (λ e. d (access-status x a ∙ e)) in
+    record {
+      state = ap (λ (o : Outcome). o .answer .state) e;
+      memory = ap (λ (o : Outcome). o .memory) e;
+      picture = ap (λ (o : Outcome). o .picture) e;
+      word = ap (λ (o : Outcome). o .answer .word) e;
+      known = ap (λ (o : Outcome). o .answer .known) e;
+      changed = ap (λ (o : Outcome). o .answer .changed) e;
+    }
 
 -- ---- an opening, with any panel, memory and picture
 

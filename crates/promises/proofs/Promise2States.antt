@@ -4,17 +4,17 @@ use Prim.Native.Nat.{ℕ}
 use mathlib.Core.Bool.{true}
 use mathlib.Core.List.{List}
 use mathlib.Core.Path.{_≡_, refl}
-use native.Mathlib.Omega.{arith}
 use Rattle.chip.specs.declared.Access.{Access}
 use Rattle.chip.specs.State.{resetState}
 use Rattle.chip.specs.Dac.{resetDac}
 use Rattle.chip.specs.Sound.{isState}
 use Rattle.chip.specs.Step.{openOf}
-use Rattle.chip.proofs.Computed.{computed}
 use Rattle.chip.specs.Trace.{World, opened, after, run}
 use Rattle.promises.specs.Good.{Fresh, Good, Openable}
-use Rattle.promises.specs.Reset.{IsReset, RowsAt}
+use Rattle.promises.specs.Refusals.{Words}
+use Rattle.promises.specs.Reset.{IsReset}
 use Rattle.promises.proofs.Origins.{reset-holds, reset-entry}
+use Rattle.promises.proofs.WordsKept.{words-kept, opened-words}
 use Rattle.promises.proofs.Worlds.{opens, good-kept, good-along, opened-good}
 
 -- what an opening leaves: status 0, the reset state, memory as lent, 03000000h at every dot
@@ -29,9 +29,19 @@ opening-good = opened-good
 pub access-good : (x : World) (a : Access) → Good x → Good (after x a)
 access-good = good-kept
 
--- so there is a state after an opening and any list of accesses: refusal 1 is never met
+-- so there is one after an opening and any list of accesses, with memory and picture of its sizes and numbers that are words
+pub always-good : (w h : ℕ) (m p : List ℕ) → Openable w h m p → (l : List Access) → Good (run (opened w h m p) l)
+always-good w h m p o l = good-along (opened w h m p) l (opened-good w h m p o)
+
+pub always-words : (w h : ℕ) (m p : List ℕ) → Openable w h m p → (l : List Access) → Words (run (opened w h m p) l .state)
+always-words = opened-words
+
+pub access-words : (x : World) (a : Access) → Good x → Words (x .state) → Words (after x a .state)
+access-words = words-kept
+
+-- and refusal 1 is never met
 pub always-state : (w h : ℕ) (m p : List ℕ) → Openable w h m p → (l : List Access) → isState (run (opened w h m p) l .state) ≡ true
-always-state w h m p o l = good-along (opened w h m p) l (opened-good w h m p o) .state
+always-state w h m p o l = always-good w h m p o l .state
 
 -- the reset state is 01's
 pub reset-means : (w h f : ℕ) → IsReset (resetState w h f) w h f
@@ -47,20 +57,4 @@ reset-means w h f =
       component = refl;
       staged = refl;
       palette = reset-entry w h f;
-    }
-
--- and the rows that the rules name are the registers that they mean
-pub rows-mean : RowsAt
-unfolding computed
-rows-mean =
-    record {
-      apertureOne = record { least = omega arith; below = omega arith; offset = refl };
-      apertureTwo = record { least = omega arith; below = omega arith; offset = refl };
-      screenBase = record { least = omega arith; below = omega arith; offset = refl };
-      screenStride = record { least = omega arith; below = omega arith; offset = refl };
-      pixelMask = record { least = omega arith; below = omega arith; offset = refl };
-      command = record { least = omega arith; below = omega arith; offset = refl };
-      subsystem = record { least = omega arith; below = omega arith; offset = refl };
-      colorMode = record { least = omega arith; below = omega arith; offset = refl };
-      miscControl = record { least = omega arith; below = omega arith; offset = refl };
     }

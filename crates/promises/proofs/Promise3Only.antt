@@ -3,29 +3,36 @@
 use Prim.Native.Nat.{ℕ, _+_, _*_, _/_, _≤_, _<_}
 use mathlib.Core.Bool.{Bool, true, false, not, _&&_, _||_}
 use mathlib.Core.Option.{Option, none, some, Option·getD}
-use mathlib.Core.Path.{_≡_, refl, ap, _∙_}
+use mathlib.Core.List.{List, [], _∷_}
+use mathlib.Core.Path.{_≡_, refl, sym, ap, _∙_}
 use native.Mathlib.Omega.{arith}
+use borrow.Author.Tests.{ne-eqb}
 use lib.ListN.{getD, length}
 use Rattle.bits.specs.Choose.{pick, everyTo}
 use Rattle.bits.specs.Bit.{bit}
 use Rattle.bits.specs.Word.{laneByte}
-use Rattle.bits.proofs.Bools.{and-false, and-true, every-at}
+use Rattle.bits.proofs.Bools.{and-false, and-true, or-false, every-at}
 use Rattle.chip.specs.declared.Access.{Access}
 use Rattle.chip.specs.Bank.{bankRow, subsystem}
 use Rattle.chip.specs.Palette.{entryCount, entryOf}
 use Rattle.chip.specs.Refusal.{isWrite}
 use Rattle.chip.proofs.Computed.{computed}
-use Rattle.chip.specs.Trace.{World, step, after}
+use Rattle.chip.specs.declared.Place.the-variants.{Register, Blank}
+use Rattle.chip.specs.Trace.{World, step, after, run}
 use Rattle.promises.specs.Good.{Sizes, Good, statusAt}
 use Rattle.promises.specs.History.{Spot, spot, Real, holds, isData, isAim}
-use Rattle.promises.specs.Frame.{bitMoves, writesRow, moves, broughtBit, fixes, SameBit, Aimed, Advanced, completes, madeColour, bytePut}
+use Rattle.promises.specs.Frame.{bitMoves, writesRow, moves, broughtBit, fixes, fixedIn, SameBit, Aimed, Advanced, Stages, completes, madeColour, bytePut}
+use Rattle.promises.specs.Width.{storedByte}
+use Rattle.promises.specs.Places.{Leads}
 use Rattle.promises.specs.Loads.{disturbs}
 use Rattle.promises.specs.Refusals.{Words}
 use Rattle.promises.specs.View.{LeavesRest, Idle}
-use Rattle.promises.proofs.Worlds.{sizes-kept}
+use Rattle.promises.proofs.Worlds.{sizes-kept, good-kept}
 use Rattle.promises.proofs.Moves.{bit-step, same-bit, flag-step}
 use Rattle.promises.proofs.MemoryBytes.{byte-step, same-byte}
-use Rattle.promises.proofs.Only.{entry-after, aim-after, data-after, calm-after}
+use Rattle.promises.proofs.Only.{entry-after, aim-after, data-after, stages-after, drops-after, calm-after}
+use Rattle.promises.proofs.Places.{leads-place}
+use Rattle.promises.proofs.Idle.{blank-idle, vain-idle}
 use Rattle.promises.proofs.Lane0.{idle}
 use Rattle.promises.proofs.Answers.{unknown-zero, lane-off, write-answers, read-leaves}
 
@@ -97,9 +104,36 @@ module _ (x : World) (a : Access) (g : Good x) where
   pub data-advances : isData x a ≡ true → Advanced (x .state .dac) (after x a .state .dac)
   data-advances = data-after x a g
 
+  -- what is staged after a palette data write, and that nothing is after a read
+  pub data-stages : isData x a ≡ true → isWrite a ≡ true → Stages (x .state .dac) (after x a .state .dac) (storedByte (x .state) (laneByte 0 (a .word)))
+  data-stages = stages-after x a
+
+  pub data-read-drops : isData x a ≡ true → isWrite a ≡ false → after x a .state .dac .staged ≡ 0
+  data-read-drops = drops-after x a
+
   -- no other access alters the address, the component or what is staged
   pub pointer-stays : disturbs x a ≡ false → after x a .state .dac ≡ x .state .dac
   pointer-stays = calm-after x a
+
+-- so a number is fixed after a list of accesses exactly where it was before, or an access of the list fixes it
+pub flags-along : (x : World) (l : List Access) (n : ℕ) → n < 2 → Good x → bit n (run x l .state .once) ≡ (bit n (x .state .once) || fixedIn x l n)
+flags-along x [] n h g = sym (or-false (bit n (x .state .once)))
+flags-along x (a ∷ l) n h g =
+    flags-along (after x a) l n h (good-kept x a g)
+    ∙ ap (λ (t : Bool). t || fixedIn (after x a) l n) (flags-move x a g n h)
+    ∙ or-assoc (bit n (x .state .once)) (fixes x a n) (fixedIn (after x a) l n)
+  where
+    or-assoc : (p q r : Bool) → ((p || q) || r) ≡ (p || (q || r))
+    or-assoc true q r = refl
+    or-assoc false q r = refl
+
+-- an accepted write alters nothing at an offset of the header without a register, and in a register that no write may change (the subsystem numbers apart)
+pub blank-ignores : (x : World) (a : Access) → Words (x .state) → isWrite a ≡ true → Leads (x .state) a Blank → Idle x a
+blank-ignores x a k w d = blank-idle x a k w (leads-place (x .state) a Blank d)
+
+pub written-in-vain : (x : World) (a : Access) → Words (x .state) → isWrite a ≡ true → (i : ℕ) → Leads (x .state) a (Register i) → (i ≡ subsystem → ⊥)
+    → bankRow i .writable ≡ 0 → bankRow i .clears ≡ 0 → Idle x a
+written-in-vain x a k w i d s v c = vain-idle x a k w i (leads-place (x .state) a (Register i) d) (ne-eqb i subsystem s) v c
 
 -- without lane 0 a RAMDAC access (region 0 from 4000h on) that is not refused alters nothing, and answers word 0 and known 0
 pub without-lane-0 : (x : World) (a : Access) → Good x → Words (x .state) → a .target ≡ 0 → 0x4000 ≤ a .offset → statusAt x a ≡ 0 → bit 0 (a .enables) ≡ false → Idle x a

@@ -1,38 +1,32 @@
 -- Promise 4. Where a known bit comes from, after an opening and any list of accesses: the reset tables, PCI's rule for offsets without a register, memory as
 -- lent, accepted writes of the list, and the palette address since it was set; nothing else is ever shown as known, and each has the value last stored.
 -- From the law of a place along any list (Along), one step at a time (Contents), and what a read shows (Shown). Assumes nothing.
-use Prim.Native.Nat.{ℕ, zero, _/_, _+_, _%_, _<_}
-use mathlib.Core.Bool.{Bool, false}
+use Prim.Native.Nat.{ℕ, _<_}
+use mathlib.Core.Bool.{Bool}
 use mathlib.Core.List.{List, []}
 use mathlib.Core.Logic.{_↔_, _⊎_, inl, inr}
-use mathlib.Core.Option.{Option, none, some, Option·getD}
+use mathlib.Core.Option.{none, some, Option·getD}
 use mathlib.Core.Path.{_≡_, sym, ap, _∙_}
 use native.Mathlib.Omega.{arith}
 use lib.ListN.{getD, length}
-use Rattle.bits.specs.Choose.{pick}
 use Rattle.bits.specs.Bit.{bit}
 use Rattle.chip.specs.declared.State.{State}
 use Rattle.chip.specs.declared.Access.{Access}
 use Rattle.chip.specs.declared.Colour.{Colour}
-use Rattle.chip.specs.declared.Place.the-variants.{Register, Address, PaletteData, Window, Blank}
-use Rattle.chip.specs.Bank.{indirectAt}
 use Rattle.chip.specs.Palette.{entryCount, entryOf}
 use Rattle.chip.specs.Dac.{resetDac}
 use Rattle.chip.specs.State.{resetState}
-use Rattle.chip.specs.Place.{placeOf}
 use Rattle.chip.specs.Trace.{World, opened, step, after, run}
 use Rattle.promises.specs.Good.{Good, Openable}
 use Rattle.promises.specs.Along.{runs, lastPut, PutLast, PutNever}
-use Rattle.promises.specs.History.{Accepted, seenBit, shows, partBit, Spot, spot, Real, holds, stated, aimPut}
-use Rattle.promises.specs.Frame.{laneAt, bytePut}
+use Rattle.promises.specs.History.{shows, Spot, Real, holds, stated, aimPut}
+use Rattle.promises.specs.Frame.{bytePut}
 use Rattle.promises.specs.Origin.{SetBy, bitPut, latest, BitStored, BitStated, ByteStored, ByteLent, AddressSet, AddressAt}
 use Rattle.promises.specs.Loads.{NoLoad, Loaded}
 use Rattle.promises.proofs.Along.{read-along, exactly}
 use Rattle.promises.proofs.Worlds.{good-kept, good-along, opened-good, opens, memory-length}
-use Rattle.promises.proofs.Sites.{row-there, indexed-there}
 use Rattle.promises.proofs.MemoryBytes.{byte-step}
 use Rattle.promises.proofs.Moves.{bit-step}
-use Rattle.promises.proofs.Shown.{found, shows-register, shows-blank, shows-address, shows-palette, shows-memory}
 use Rattle.promises.proofs.Address.{run-runs, set-or-not, set-at, never-set}
 use Rattle.promises.proofs.Loads.{loaded, of-loaded, never-loaded, of-unloaded}
 use Rattle.promises.proofs.Origins.{opened-holds, reset-entry, bit-stored, stored-bit, byte-stored, stored-byte}
@@ -144,54 +138,3 @@ module _ (w h : ℕ) (m p : List ℕ) (o : Openable w h m p) (l : List Access) w
     never-loaded (opened w h m p) e (opened-good w h m p o) opened-stage he (opened-entry e) l,
     of-unloaded (opened w h m p) e (opened-good w h m p o) opened-stage he (opened-entry e) l,
   )
-
-  -- ---- what a read shows, from the list alone
-
-  module _ (a : Access) (b : ℕ) (q : Accepted (run (opened w h m p) l) a) (hb : b < 32) where
-    -- a register: region 0's, the header's, or the indirect one that indexed data leads to
-    pub register-read : (r : ℕ) → placeOf (run (opened w h m p) l .state) a ≡ Register r
-        → shows (step (run (opened w h m p) l) a .answer) b
-        ≡ pick (bit (b / 8) (a .enables)) (latest (bitPut (spot r b)) (opened w h m p) l (stated (spot r b))) none
-    register-read r e =
-        shows-register (run (opened w h m p) l) a b q hb r e
-        ∙ ap (λ (z : Option Bool). pick (bit (b / 8) (a .enables)) z none)
-        (bit-held (spot r b) (record { row = row-there (run (opened w h m p) l .state) a r e; bit = hb }))
-
-    -- indexed data: the register that the map has at the address
-    pub indexed-read : a .target ≡ 0 → a .offset ≡ 0x4050
-        → shows (step (run (opened w h m p) l) a .answer) b
-        ≡ pick (bit (b / 8) (a .enables))
-        (latest (bitPut (spot (indirectAt (run (opened w h m p) l .state .dac .address)) b)) (opened w h m p) l
-        (stated (spot (indirectAt (run (opened w h m p) l .state .dac .address)) b)))
-        none
-    indexed-read t f =
-        register-read (indirectAt (run (opened w h m p) l .state .dac .address))
-        (indexed-there (run (opened w h m p) l .state) a t f (found (run (opened w h m p) l .state) _ _ a (q .done)))
-
-    -- an offset of the header without a register: zero, known, by PCI
-    pub blank-read : placeOf (run (opened w h m p) l .state) a ≡ Blank
-        → shows (step (run (opened w h m p) l) a .answer) b ≡ pick (bit (b / 8) (a .enables)) (some false) none
-    blank-read e = shows-blank (run (opened w h m p) l) a b q hb e
-
-    -- the address: the bits of it that are known
-    pub address-read : placeOf (run (opened w h m p) l .state) a ≡ Address
-        → shows (step (run (opened w h m p) l) a .answer) b
-        ≡ pick (bit (b / 8) (a .enables))
-        (seenBit (bit b (run (opened w h m p) l .state .dac .known)) (bit b (run (opened w h m p) l .state .dac .address))) none
-    address-read e = shows-address (run (opened w h m p) l) a b q hb e
-
-    -- palette data: a component of the entry that the address names, as the present width shows it
-    pub palette-read : placeOf (run (opened w h m p) l .state) a ≡ PaletteData
-        → shows (step (run (opened w h m p) l) a .answer) b
-        ≡ pick (bit (b / 8) (a .enables))
-        (partBit (run (opened w h m p) l .state) (run (opened w h m p) l .state .dac .component) b
-        (entryOf (run (opened w h m p) l .state .palette) (run (opened w h m p) l .state .dac .address))) none
-    palette-read e = shows-palette (run (opened w h m p) l) a b q hb e
-
-    -- memory: the bit of the byte that exchanges with its lane
-    pub memory-read : (i : ℕ) → placeOf (run (opened w h m p) l .state) a ≡ Window i
-        → shows (step (run (opened w h m p) l) a .answer) b
-        ≡ pick (bit (b / 8) (a .enables))
-        (some (bit (b % 8) (getD (run (opened w h m p) l .memory) (a .offset + laneAt (getD (run (opened w h m p) l .state .values) i 0) (b / 8)) 0)))
-        none
-    memory-read i e = shows-memory (run (opened w h m p) l) a b q hb good i e

@@ -2,13 +2,14 @@
 -- dot's word is the one of 01's rules, and each changed count is the number of dots that differ. From the laws of Pictures and Dots; a stored colour is of bytes
 -- because each was written as a byte. Assumes nothing.
 use Prim.Native.Nat.{ℕ, zero, suc, _+_, _*_, _<_}
-use mathlib.Core.List.{List}
-use mathlib.Core.Path.{_≡_, sym, ap, _∙_, subst}
+use mathlib.Core.List.{List, [], _∷_}
+use mathlib.Core.Path.{_≡_, refl, sym, ap, ap₂, _∙_, subst}
 use native.Mathlib.Nat.{le-of-suc-le-suc}
 use native.Mathlib.Omega.{arith}
+use lib.Dec.{eqb}
 use lib.ListN.{getD, length}
 use Rattle.bits.specs.Word.{laneByte}
-use Rattle.bits.proofs.Cases.{pick-by}
+use Rattle.bits.proofs.Cases.{byTest, pick-by}
 use Rattle.bits.proofs.Lanes.{lane-lt}
 use Rattle.chip.specs.declared.State.{State}
 use Rattle.chip.specs.declared.Access.{Access}
@@ -17,7 +18,7 @@ use Rattle.chip.specs.Picture.{diffs, drawnFrom, drawn, wordOf}
 use Rattle.chip.specs.Trace.{World, opened, step, after, run}
 use Rattle.promises.specs.Good.{Openable}
 use Rattle.promises.specs.Width.{eightBits, storedByte}
-use Rattle.promises.specs.Dots.{ByteColours, Ruled}
+use Rattle.promises.specs.Dots.{ByteColours, Ruled, dotsChanged}
 use Rattle.promises.proofs.Worlds.{memory-length, picture-length}
 use Rattle.promises.proofs.Pictures.{right-along, opened-right, counted}
 use Rattle.promises.proofs.Dots.{rules}
@@ -27,9 +28,16 @@ pub picture-right : (w h : ℕ) (m p : List ℕ) → openOf w h m p .answer .sta
     → run (opened w h m p) l .picture ≡ drawn (run (opened w h m p) l .state) (run (opened w h m p) l .memory)
 picture-right w h m p o l = right-along (opened w h m p) l (opened-right w h m p o)
 
--- of any access at all, on any world
-pub count-right : (x : World) (a : Access) → step x a .answer .changed ≡ diffs (x .picture) (after x a .picture)
-count-right = counted
+-- the count, of any access at all, on any world
+changed-is : (p q : List ℕ) → length q ≡ length p → diffs p q ≡ dotsChanged p q
+unfolding dotsChanged
+changed-is [] q e = refl
+changed-is (a ∷ p) [] e = absurd (let z : _≡_ {A = ℕ} 0 (suc (length p)) = e in omega arith)
+changed-is (a ∷ p) (b ∷ q) e =
+    ap₂ (λ (m n : ℕ). m + n) (byTest (eqb a b) (λ t. simp t) (λ t. simp t)) (changed-is p q (let z : suc (length q) ≡ suc (length p) = e in omega arith))
+
+pub count-right : (x : World) (a : Access) → step x a .answer .changed ≡ dotsChanged (x .picture) (after x a .picture)
+count-right x a = counted x a ∙ changed-is (x .picture) (after x a .picture) (picture-length x a)
 
 -- memory and picture keep their lengths
 pub lengths-stay : (x : World) (a : Access) → (length (after x a .memory) ≡ length (x .memory)) × (length (after x a .picture) ≡ length (x .picture))
@@ -52,6 +60,10 @@ stored-lt : (s : State) (w : ℕ) → storedByte s (laneByte 0 w) < 256
 unfolding storedByte
 stored-lt s w = pick-by (λ (k : ℕ). k < 256) (eightBits s) _ _ (lane-lt 0 w) (omega arith)
 
+-- the word of a dot, of any state whose stored entries are of bytes, is the one of 01's rules
+pub word-ruled : (s : State) (m : List ℕ) (i : ℕ) → ByteColours (s .palette) → Ruled s m i (wordOf s m i)
+word-ruled = rules
+
 module _ (w h : ℕ) (m p : List ℕ) (o : Openable w h m p) (l : List Access) where
   abbrev x : World
   x = run (opened w h m p) l
@@ -66,7 +78,7 @@ module _ (w h : ℕ) (m p : List ℕ) (o : Openable w h m p) (l : List Access) w
         blue = subst (λ (k : ℕ). k < 256) (sym (y .third .value)) (stored-lt _ _);
       }
 
-  -- the word of each dot is 01's
+  -- so after an opening and any list of accesses the word of each dot is
   pub dot-ruled : (i : ℕ) → i < length (x .picture) → Ruled (x .state) (x .memory) i (getD (x .picture) i 0)
   dot-ruled i hi =
       let e = picture-right w h m p (o .accepted) l in

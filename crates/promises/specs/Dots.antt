@@ -1,11 +1,13 @@
 -- The picture's five rules in 01's words: what a dot's word says of the registers, of memory and of the palette (01, The picture; docs/DECISIONS.md, D-12 and D-25).
-use Prim.Native.Nat.{ℕ, _+_, _*_, _/_, _%_, _≤_, _<_}
-use mathlib.Core.Bool.{true, false}
+use Prim.Native.Nat.{ℕ, zero, suc, _+_, _*_, _/_, _%_, _≤_, _<_}
+use mathlib.Core.Bool.{Bool, true, false, not}
 use mathlib.Core.List.{List}
 use mathlib.Core.Logic.{_↔_}
 use mathlib.Core.Option.{Option, none, some}
 use mathlib.Core.Path.{_≡_}
+use lib.Dec.{eqb}
 use lib.ListN.{getD, length}
+use Rattle.bits.specs.Choose.{pick}
 use Rattle.bits.specs.Bit.{bit}
 use Rattle.bits.specs.Word.{inside}
 use Rattle.chip.specs.declared.State.{State}
@@ -56,3 +58,12 @@ pub record Ruled (s : State) (m : List ℕ) (i w : ℕ) : Type 0 where
   pub four : (w ≡ 0x04000000) ↔ (Indexed s × Placed s × (dotAt s i < length m) × (entryAt s m i ≡ none))
   pub five : (c : Colour) → Bytes c
       → (w ≡ 0x01000000 + c .red * 0x10000 + c .green * 0x100 + c .blue) ↔ (Indexed s × Placed s × (dotAt s i < length m) × (entryAt s m i ≡ some c))
+
+-- how many of the first n numbers pass a test
+abbrev pub howMany : (ℕ → Bool) → ℕ → ℕ
+howMany t zero = 0
+howMany t (suc n) = pick (t 0) 1 0 + howMany (λ i. t (suc i)) n
+
+-- how many dots of a picture differ from another's
+unfoldable pub dotsChanged : List ℕ → List ℕ → ℕ
+dotsChanged p q = howMany (λ i. not (eqb (getD p i 0) (getD q i 0))) (length p)

@@ -1,6 +1,7 @@
 -- What an access alters, in the words of 01: what it makes of a bit, an entry, a byte that it reaches; any other stays.
 use Prim.Native.Nat.{ℕ, _+_, _-_, _*_, _/_, _%_}
 use mathlib.Core.Bool.{Bool, not, false, _&&_, _||_}
+use mathlib.Core.List.{List, [], _∷_}
 use mathlib.Core.Option.{Option, none, some}
 use mathlib.Core.Path.{_≡_}
 use lib.Dec.{eqb, leb, ltb}
@@ -15,7 +16,7 @@ use Rattle.chip.specs.declared.Colour.{Colour}
 use Rattle.chip.specs.Bank.{bankRow, subsystem}
 use Rattle.chip.specs.Place.{placeOf}
 use Rattle.chip.specs.Refusal.{isWrite}
-use Rattle.chip.specs.Trace.{World}
+use Rattle.chip.specs.Trace.{World, after}
 use Rattle.promises.specs.Reach.{reachAt}
 use Rattle.promises.specs.Width.{storedByte}
 use Rattle.promises.specs.History.{accepted, isData, Spot}
@@ -51,6 +52,11 @@ broughtBit q a = bit (q .b) (a .word) && not (bit (q .b) (bankRow (q .row) .clea
 unfoldable pub fixes : World → Access → ℕ → Bool
 fixes x a n = writesRow x a subsystem && (bit (2 * n) (a .enables) && bit (2 * n + 1) (a .enables))
 
+-- some access of a list does
+abbrev pub fixedIn : World → List Access → ℕ → Bool
+fixedIn x [] n = false
+fixedIn x (a ∷ l) n = fixes x a n || fixedIn (after x a) l n
+
 -- the stored bits themselves: the value's, and whether it is known
 pub record SameBit (s n : State) (q : Spot) : Type 0 where
   pub value : bit (q .b) (getD (n .values) (q .row) 0) ≡ bit (q .b) (getD (s .values) (q .row) 0)
@@ -70,6 +76,12 @@ pub record Advanced (d n : Dac) : Type 0 where
   pub component : n .component ≡ (d .component + 1) % 3
   pub address : n .address ≡ (d .address + (d .component + 1) / 3) % 256
   pub known : n .known ≡ d .known
+
+-- what is staged after a palette data write of a byte that is stored as v: component 0 stages red; 1 adds green where exactly red is staged; nothing is after any other
+pub record Stages (d n : Dac) (v : ℕ) : Type 0 where
+  pub red : d .component ≡ 0 → (n .staged ≡ 1) × (n .red ≡ v)
+  pub green : d .component ≡ 1 → d .staged ≡ 1 → (n .staged ≡ 2) × (n .red ≡ d .red) × (n .green ≡ v)
+  pub drops : (d .component ≡ 0 → ⊥) → (d .component ≡ 1 → d .staged ≡ 1 → ⊥) → n .staged ≡ 0
 
 -- ---- a palette entry
 

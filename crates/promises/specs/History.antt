@@ -26,7 +26,7 @@ unfoldable pub accepted : World → Access → Bool
 accepted x a = eqb (statusAt x a) 0
 
 -- .. and is a read
-pub record Accepted (x : World) (a : Access) : Type 0 where
+pub record AcceptedRead (x : World) (a : Access) : Type 0 where
   pub read : isWrite a ≡ false
   pub done : statusAt x a ≡ 0
 

@@ -6,6 +6,7 @@ pub mod History
 pub mod Frame
 pub mod View
 pub mod Reset
+pub mod Named
 pub mod Dots
 pub mod Loads
 pub mod Origin

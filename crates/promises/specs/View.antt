@@ -41,8 +41,9 @@ pub record Idle (x : World) (a : Access) : Type 0 where
   pub picture : after x a .picture ≡ x .picture
   pub word : step x a .answer .word ≡ 0
   pub known : step x a .answer .known ≡ 0
+  pub changed : step x a .answer .changed ≡ 0
 
--- the row of CFGCommand and CFGStatus, 04h of the header (Promise2States has the fact that it is)
+-- the row of CFGCommand and CFGStatus, 04h of the header (Promise2Tables has the fact that it is)
 abbrev pub command : ℕ
 command = 39
 

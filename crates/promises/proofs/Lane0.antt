@@ -36,7 +36,7 @@ use Rattle.promises.specs.Places.{Leads, address, palette, indexed, regi
 use Rattle.promises.specs.History.{AcceptedRead, isAim, isData}
 use Rattle.promises.specs.Refusals.{freeBit, IsState, Words}
 use Rattle.promises.specs.View.{Idle}
-use Rattle.promises.proofs.Promise1State.{state-means}
+use Rattle.promises.proofs.Clauses.{clauses}
 use Rattle.promises.proofs.Shown.{enables-lt, sees, answer-word, answer-known}
 use Rattle.promises.proofs.Answers.{write-answers}
 use Rattle.promises.proofs.Idle.{StoresNone, idle-by}
@@ -150,7 +150,7 @@ module _ (x : World) (a : Access) (h : Words (x .state)) (t : a .target ≡ 0) (
 
   module _ (g : Good x) where
     sound : IsState (x .state)
-    sound = state-means (x .state) h .0 (g .state)
+    sound = clauses (x .state) h .0 (g .state)
 
     -- nothing above lane 0 is seen as known
     register-high : (i b : ℕ) → OfByte i → 8 ≤ b → b < 32 → bit b (getD (x .state .knowns) i 0) ≡ false

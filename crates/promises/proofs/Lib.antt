@@ -9,6 +9,7 @@ pub mod Does
 pub mod Sites
 pub mod Places
 pub mod Passed
+pub mod Clauses
 pub mod Keeps
 pub mod Worlds
 pub mod Along
@@ -29,7 +30,6 @@ pub mod Lane0
 pub mod Depends
 pub mod Worked
 pub mod Origins
-pub mod Promise1State
 pub mod Promise1Refusals
 pub mod Promise2States
 pub mod Promise2Tables

@@ -25,14 +25,14 @@ use Rattle.promises.specs.Good.{statusAt}
 use Rattle.promises.specs.Reach.{reachAt}
 use Rattle.promises.specs.Places.{Leads}
 use Rattle.promises.specs.View.{Idle}
-use Rattle.promises.specs.Refusals.{Words, Passes, state, lent, asked, aligned, found, directed, served, Fails, Panel, Memory, OpeningHas}
+use Rattle.promises.specs.Refusals.{IsState, Words, Passes, state, lent, asked, aligned, found, directed, served, Fails, Panel, Memory, OpeningHas}
 use Rattle.chip.proofs.Refusals.{is-write, write-is}
 use Rattle.promises.proofs.Passed.{lines, first-is, is-first, none-is, is-none, at-most, lent-test, asked-test, aligned-test, found-test, directed-test, served-test}
 use Rattle.promises.proofs.Places.{leads-place, place-leads}
-use Rattle.promises.proofs.Promise1State.{panel-of, of-panel, memory-of, of-memory, state-means}
+use Rattle.promises.proofs.Clauses.{panel-of, of-panel, memory-of, of-memory, clauses}
 use Rattle.promises.proofs.Sane.{sane}
 
--- ---- an access, with any state, buffers, offset, enables and word
+-- ---- an access, with any state, buffers, offset, enables and word (for line 1 in 01's words, of a state whose numbers are words, as the types have it)
 
 -- the status that it answers is the table's
 pub access-status : (x : World) (a : Access) → step x a .answer .status ≡ statusAt x a
@@ -46,6 +46,10 @@ write-means a = (is-write a, write-is a)
 -- a place of the definitions, other than nowhere, is where 01 says that the access leads
 pub place-means : (s : State) (a : Access) (p : Place) → reachAt p .here ≡ true → (placeOf s a ≡ p) ↔ Leads s a p
 place-means s a p n = (place-leads s a p n, leads-place s a p)
+
+-- 1: a state is one exactly where each of 01's clauses holds
+pub state-means : (s : State) → Words s → (isState s ≡ true) ↔ IsState s
+state-means = clauses
 
 -- the tests of the table's lines
 tests : World → Access → List Bool

@@ -48,7 +48,7 @@ moves x a q = writesRow x a (q .row) && bitMoves (x .state) a (q .row) (q .b)
 unfoldable pub broughtBit : Spot → Access → Bool
 broughtBit q a = bit (q .b) (a .word) && not (bit (q .b) (bankRow (q .row) .clears))
 
--- .. that fixes a subsystem number, 0 the vendor's and 1 the ID's: with both of its lanes
+-- .. that fixes a subsystem number, 0 the vendor's and 1 the ID's, if it is not fixed yet: with both of its lanes
 unfoldable pub fixes : World → Access → ℕ → Bool
 fixes x a n = writesRow x a subsystem && (bit (2 * n) (a .enables) && bit (2 * n + 1) (a .enables))
 

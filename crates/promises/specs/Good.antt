@@ -1,4 +1,4 @@
--- A state with the memory and the picture that it was opened with.
+-- A state with memory and picture of the lengths that it was opened with.
 use Prim.Native.Nat.{ℕ, _*_, _<_}
 use mathlib.Core.Bool.{true}
 use mathlib.Core.List.{List}

@@ -1,10 +1,25 @@
--- What an aperture access depends on, and what a read leaves.
-use Prim.Native.Nat.{ℕ}
+-- What a picture and an access depend on, what a read leaves, and an access that does nothing.
+use Prim.Native.Nat.{ℕ, _%_}
 use mathlib.Core.Path.{_≡_}
 use lib.ListN.{getD}
 use Rattle.chip.specs.declared.State.{State}
 use Rattle.chip.specs.declared.Access.{Access}
+use Rattle.chip.specs.Bank.{screenBase, screenStride, pixelMask, colorMode}
+use Rattle.chip.specs.Palette.{entryOf}
 use Rattle.chip.specs.Trace.{World, step, after}
+
+-- two states with the same panel, base, stride and pixel mask, known alike, bits 0 to 4 of RDColorMode, and palette entries: all that a picture is made of, but for memory
+pub record SameFields (s n : State) : Type 0 where
+  pub width : n .width ≡ s .width
+  pub height : n .height ≡ s .height
+  pub base : getD (n .values) screenBase 0 % 0x100000 ≡ getD (s .values) screenBase 0 % 0x100000
+  pub base-known : getD (n .knowns) screenBase 0 % 0x100000 ≡ getD (s .knowns) screenBase 0 % 0x100000
+  pub stride : getD (n .values) screenStride 0 % 0x100000 ≡ getD (s .values) screenStride 0 % 0x100000
+  pub stride-known : getD (n .knowns) screenStride 0 % 0x100000 ≡ getD (s .knowns) screenStride 0 % 0x100000
+  pub mask : getD (n .values) pixelMask 0 % 256 ≡ getD (s .values) pixelMask 0 % 256
+  pub mask-known : getD (n .knowns) pixelMask 0 % 256 ≡ getD (s .knowns) pixelMask 0 % 256
+  pub mode : getD (n .values) colorMode 0 % 32 ≡ getD (s .values) colorMode 0 % 32
+  pub palette : (e : ℕ) → entryOf (n .palette) e ≡ entryOf (s .palette) e
 
 -- two worlds with the same memory and the same word in the register of row i
 pub record SameWindow (x y : World) (i : ℕ) : Type 0 where

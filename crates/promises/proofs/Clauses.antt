@@ -1,4 +1,4 @@
--- Promise 1, refusal 1 in 01's words: a state is one exactly where each of its clauses holds.
+-- Refusal 1 in 01's words: a state is one exactly where each of its clauses holds.
 -- Clause by clause; a register's fault word is zero exactly where each of its bits is sound. Assumes nothing.
 use Prim.Native.Nat.{ℕ, _%_, _^_, _<_, _≤_}
 use mathlib.Core.Bool.{Bool, true, false, not, _&&_}
@@ -165,7 +165,7 @@ of-memory n f = simp (eq-eqb (n % 8) 0 (f .eights), le-leb 8 n (f .bytes .0), le
 -- ---- the whole
 
 module _ (s : State) (h : Words s) where
-  pub is-sound : isState s ≡ true → IsState s
+  is-sound : isState s ≡ true → IsState s
   unfolding componentOk addressOk onceOk bankSound rowOk paletteOk
   is-sound e =
       let f = sane s e in
@@ -185,7 +185,7 @@ module _ (s : State) (h : Words s) where
         palette = λ i hi. entry-sound (s .palette) i (every-at (entryOk (s .palette)) entryCount i (f .palette) hi);
       }
 
-  pub sound-is : IsState s → isState s ≡ true
+  sound-is : IsState s → isState s ≡ true
   unfolding componentOk addressOk onceOk bankSound rowOk paletteOk
   sound-is f =
       let ho = f .flags in
@@ -206,6 +206,5 @@ module _ (s : State) (h : Words s) where
         palette = every-all _ entryCount (λ i hi. sound-entry (s .palette) i (f .palette i hi));
       })
 
-  -- refusal 1 is given exactly where a clause fails
-  pub state-means : (isState s ≡ true) ↔ IsState s
-  state-means = (is-sound, sound-is)
+  pub clauses : (isState s ≡ true) ↔ IsState s
+  clauses = (is-sound, sound-is)

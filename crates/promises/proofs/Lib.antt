@@ -25,6 +25,7 @@ pub mod Pictures
 pub mod Dots
 pub mod Answers
 pub mod WordsKept
+pub mod Meant
 pub mod Idle
 pub mod Lane0
 pub mod Depends

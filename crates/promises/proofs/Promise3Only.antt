@@ -4,6 +4,7 @@ use Prim.Native.Nat.{ℕ, _+_, _*_, _/_, _≤_, _<_}
 use mathlib.Core.Bool.{Bool, true, false, not, _&&_, _||_}
 use mathlib.Core.Option.{Option, none, some, Option·getD}
 use mathlib.Core.List.{List, [], _∷_}
+use mathlib.Core.Logic.{_↔_}
 use mathlib.Core.Path.{_≡_, refl, sym, ap, _∙_}
 use native.Mathlib.Omega.{arith}
 use borrow.Author.Tests.{ne-eqb}
@@ -21,10 +22,10 @@ use Rattle.chip.specs.declared.Place.the-variants.{Register, Blank}
 use Rattle.chip.specs.Trace.{World, step, after, run}
 use Rattle.promises.specs.Good.{Sizes, Good, statusAt}
 use Rattle.promises.specs.History.{Spot, spot, Real, holds, isData, isAim}
-use Rattle.promises.specs.Frame.{bitMoves, writesRow, moves, broughtBit, fixes, fixedIn, SameBit, Aimed, Advanced, Stages, completes, madeColour, bytePut}
+use Rattle.promises.specs.Frame.{bitMoves, writesRow, moves, Moves, broughtBit, fixes, fixedIn, SameBit, Aimed, Advanced, Stages, completes, madeColour, bytePut}
 use Rattle.promises.specs.Width.{storedByte}
 use Rattle.promises.specs.Places.{Leads}
-use Rattle.promises.specs.Loads.{disturbs}
+use Rattle.promises.specs.Loads.{disturbs, Disturbs}
 use Rattle.promises.specs.Refusals.{Words}
 use Rattle.promises.specs.View.{LeavesRest, Idle}
 use Rattle.promises.proofs.Worlds.{sizes-kept, good-kept}
@@ -32,6 +33,7 @@ use Rattle.promises.proofs.Moves.{bit-step, same-bit, flag-step}
 use Rattle.promises.proofs.MemoryBytes.{byte-step, same-byte}
 use Rattle.promises.proofs.Only.{entry-after, aim-after, data-after, stages-after, drops-after, calm-after}
 use Rattle.promises.proofs.Places.{leads-place}
+use Rattle.promises.proofs.Meant.{moves-meant, disturbs-meant}
 use Rattle.promises.proofs.Idle.{blank-idle, vain-idle}
 use Rattle.promises.proofs.Lane0.{idle}
 use Rattle.promises.proofs.Answers.{unknown-zero, lane-off, write-answers, read-leaves}
@@ -50,6 +52,14 @@ uncleared-all = refl
 never-cleared : (b : ℕ) → b < 32 → not (bit b (bankRow subsystem .clears)) ≡ true
 unfolding uncleared
 never-cleared b h = every-at uncleared 32 b uncleared-all h
+
+-- what moves a bit, and what disturbs a load, in 01's words: an accepted write that leads to the register and reaches the bit; an accepted access with lane 0 that leads
+-- to palette data, or sets an address. Nothing else does: no refused access, none without lane 0, no read of the address, no other register
+pub moves-mean : (x : World) (a : Access) (q : Spot) → (moves x a q ≡ true) ↔ Moves x a q
+moves-mean = moves-meant
+
+pub disturbs-means : (x : World) (a : Access) → (disturbs x a ≡ true) ↔ Disturbs x a
+disturbs-means = disturbs-meant
 
 module _ (x : World) (a : Access) (g : Good x) where
   -- a register's bit that it moves is known, with the word's bit, or zero where a one clears ..

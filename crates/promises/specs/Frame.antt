@@ -1,6 +1,6 @@
 -- What an access alters, in the words of 01: what it makes of a bit, an entry, a byte that it reaches; any other stays.
 use Prim.Native.Nat.{ℕ, _+_, _-_, _*_, _/_, _%_}
-use mathlib.Core.Bool.{Bool, not, false, _&&_, _||_}
+use mathlib.Core.Bool.{Bool, true, not, false, _&&_, _||_}
 use mathlib.Core.List.{List, [], _∷_}
 use mathlib.Core.Option.{Option, none, some}
 use mathlib.Core.Path.{_≡_}
@@ -11,12 +11,15 @@ use Rattle.bits.specs.Bit.{bit}
 use Rattle.bits.specs.Word.{laneByte}
 use Rattle.chip.specs.declared.State.{State}
 use Rattle.chip.specs.declared.Access.{Access}
+use Rattle.chip.specs.declared.Place.the-variants.{Register}
 use Rattle.chip.specs.declared.Dac.{Dac}
 use Rattle.chip.specs.declared.Colour.{Colour}
 use Rattle.chip.specs.Bank.{bankRow, subsystem}
 use Rattle.chip.specs.Place.{placeOf}
 use Rattle.chip.specs.Refusal.{isWrite}
 use Rattle.chip.specs.Trace.{World, after}
+use Rattle.promises.specs.Good.{statusAt}
+use Rattle.promises.specs.Places.{Leads}
 use Rattle.promises.specs.Reach.{reachAt}
 use Rattle.promises.specs.Width.{storedByte}
 use Rattle.promises.specs.History.{accepted, isData, Spot}
@@ -43,6 +46,13 @@ writesRow x a r = (accepted x a && isWrite a) && isRow (reachAt (placeOf (x .sta
 -- .. that moves the bit
 unfoldable pub moves : World → Access → Spot → Bool
 moves x a q = writesRow x a (q .row) && bitMoves (x .state) a (q .row) (q .b)
+
+-- the same, line by line
+pub record Moves (x : World) (a : Access) (q : Spot) : Type 0 where
+  pub accepted : statusAt x a ≡ 0
+  pub write : a .write ≡ 0 → ⊥
+  pub place : Leads (x .state) a (Register (q .row))
+  pub reached : bitMoves (x .state) a (q .row) (q .b) ≡ true
 
 -- .. and what it makes of it: the word's bit, and zero where a one clears
 unfoldable pub broughtBit : Spot → Access → Bool

@@ -2,16 +2,18 @@
 use Prim.Native.Nat.{ℕ}
 use mathlib.Core.Bool.{Bool, true, not, _&&_, _||_}
 use mathlib.Core.List.{List, [], _∷_, _++_}
+use mathlib.Core.Logic.{_⊎_}
 use mathlib.Core.Path.{_≡_}
 use Rattle.bits.specs.Bit.{bit}
 use Rattle.bits.specs.Word.{laneByte}
 use Rattle.chip.specs.declared.Access.{Access}
 use Rattle.chip.specs.declared.Colour.{Colour}
-use Rattle.chip.specs.declared.Place.the-variants.{PaletteData}
+use Rattle.chip.specs.declared.Place.the-variants.{Address, PaletteData}
 use Rattle.chip.specs.Place.{placeOf}
 use Rattle.chip.specs.Refusal.{isWrite}
 use Rattle.chip.specs.Trace.{World, after, run}
 use Rattle.promises.specs.Good.{statusAt}
+use Rattle.promises.specs.Places.{Leads}
 use Rattle.promises.specs.Width.{storedByte}
 use Rattle.promises.specs.History.{isData, isAim}
 
@@ -29,6 +31,12 @@ pub record WritesPart (x : World) (a : Access) (e c v : ℕ) : Type 0 where
 -- Refused accesses, reading the address, accesses without lane 0 and other registers do not
 unfoldable pub disturbs : World → Access → Bool
 disturbs x a = isData x a || isAim x a
+
+-- the same, line by line
+pub record Disturbs (x : World) (a : Access) : Type 0 where
+  pub accepted : statusAt x a ≡ 0
+  pub lane : bit 0 (a .enables) ≡ true
+  pub by : Leads (x .state) a PaletteData ⊎ ((a .write ≡ 0 → ⊥) × Leads (x .state) a Address)
 
 -- no access of a list, made from x, does
 abbrev pub calm : World → List Access → Bool

@@ -37,6 +37,7 @@ pub mod Promise2Tables
 pub mod Promise3Only
 pub mod Promise4Origins
 pub mod Promise4Reads
+pub mod Known
 pub mod Promise4Known
 pub mod Promise5Picture
 pub mod Promise6Altered

@@ -1,13 +1,12 @@
 -- A place by what it reaches, and where it can be found: a row that there is, palette data only where the address is known.
 -- By the places, and by the choices of which a place is made. Assumes nothing.
 use Prim.Native.Nat.{ℕ, _<_}
-use mathlib.Core.Bool.{true, false}
+use mathlib.Core.Bool.{true}
 use mathlib.Core.Option.{Option, none, some}
 use mathlib.Core.Path.{_≡_, refl, sym, ap, _∙_, subst}
 use native.Mathlib.Omega.{arith}
 use borrow.Author.Tests.{eqb-true, ltb-true}
 use lib.Dec.{eqb, ltb, leb}
-use Rattle.bits.proofs.Bools.{clash}
 use Rattle.bits.proofs.Cases.{byTest, pick-by, pick-when}
 use Rattle.chip.specs.declared.State.{State}
 use Rattle.chip.specs.declared.Access.{Access}
@@ -17,8 +16,6 @@ use Rattle.chip.specs.declared.Place.the-variants.{Register, Address, PaletteDa
 use Rattle.chip.specs.Bank.{bankCount, regionCount, indirectFirst, regionAt, headerAt, indirectAt, indirectEntry, apertureOne, apertureTwo}
 use Rattle.chip.specs.Dac.{addressKnown}
 use Rattle.chip.specs.Place.{dataPlace, indexedPlace, regionPlace, headerPlace, placeAt, placeOf}
-use Rattle.chip.specs.Port.{portAt}
-use Rattle.chip.specs.Refusal.{portOf}
 use Rattle.promises.specs.Reach.{reachAt}
 
 -- what a place reaches says which place it is
@@ -88,16 +85,6 @@ module _ (s : State) (a : Access) where
   pub address-there : placeOf s a ≡ PaletteData → s .dac .known ≡ 0xFF
   unfolding Sited
   address-there e = subst (Sited (s .dac)) e (sited (s .dac) (a .target) (a .offset))
-
-  -- indexed data that is there is the register that the map has at the address
-  pub indexed-there : a .target ≡ 0 → a .offset ≡ 0x4050 → portOf s a .present ≡ true → placeOf s a ≡ Register (indirectAt (s .dac .address))
-  unfolding placeAt regionPlace indexedPlace portOf portAt
-  indexed-there t o e =
-      byTest (addressKnown (s .dac))
-      (λ k. byTest (indirectEntry (s .dac .address) .exists)
-      (λ x. simp (t, o, k, x))
-      (λ x. clash false (simp (t, o, k, x) at e) refl))
-      (λ k. clash false (simp (t, o, k) at e) refl)
 
 -- ---- region 0 has no window, so where an aperture access leads does not depend on the state
 

@@ -1,18 +1,19 @@
 -- Answers: zero where unknown, nothing in lanes that are not enabled, 0 and 0 from a write; and a read alters nothing but the palette's pointer.
 -- From the definition of the answer, refused or not. Assumes nothing.
-use Prim.Native.Nat.{ℕ, _/_, _<_}
+use Prim.Native.Nat.{ℕ, _/_, _^_, _<_}
 use mathlib.Core.Bool.{Bool, true, false, _&&_}
 use mathlib.Core.List.{List}
 use mathlib.Core.Option.{Option, none, Option·getD}
 use mathlib.Core.Path.{_≡_, refl, sym, ap, ap₂, _∙_, subst}
+use native.Mathlib.Omega.{arith}
 use borrow.Author.Tests.{eqb-true}
 use lib.Dec.{eqb}
 use Rattle.bits.specs.Bit.{bit}
-use Rattle.bits.specs.Word.{lanesOf}
+use Rattle.bits.specs.Word.{inside, lanesOf}
 use Rattle.bits.proofs.Cases.{pick-when}
 use Rattle.bits.proofs.Bools.{and-false}
 use Rattle.bits.proofs.Single.{bit-of-zero}
-use Rattle.bits.proofs.Words.{bit-inside, lane-bit, inside-zero}
+use Rattle.bits.proofs.Words.{bit-inside, lane-bit, lanes-lt, inside-le, inside-zero}
 use Rattle.chip.specs.declared.State.{State}
 use Rattle.chip.specs.declared.Access.{Access}
 use Rattle.chip.specs.Dac.{Paint}
@@ -66,6 +67,19 @@ unfolding doneBy settled refused seenBy wordIn knownIn
 write-answers x a w =
     by-way (λ (o : Outcome). (o .answer .word ≡ 0) × (o .answer .known ≡ 0)) x a
     (λ d. (simp (w, inside-zero), simp (w, inside-zero))) (refl, refl)
+
+-- an answer's word and known mask are words
+pub answers-fit : (x : World) (a : Access) → (step x a .answer .word < 2 ^ 32) × (step x a .answer .known < 2 ^ 32)
+unfolding doneBy settled refused wordIn knownIn
+answers-fit x a =
+    by-way (λ (o : Outcome). (o .answer .word < 2 ^ 32) × (o .answer .known < 2 ^ 32)) x a
+    (λ d.
+    let s = seenBy (x .state) (x .memory) a in
+    let l = lanes-lt (a .enables) in
+    let k = inside-le (s .known) (lanesOf (a .enables)) in
+    let v = inside-le (s .value) (inside (s .known) (lanesOf (a .enables))) in
+    (omega arith, omega arith))
+    (omega arith, omega arith)
 
 -- ---- a read
 

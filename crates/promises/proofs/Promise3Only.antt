@@ -1,6 +1,6 @@
 -- Promise 3. What an access alters, and that it alters nothing else; a word is zero where it is not known, and shows nothing in lanes that are not enabled; a write answers 0 and 0.
 -- From the laws of Only and Answers. Assumes nothing.
-use Prim.Native.Nat.{ℕ, _+_, _*_, _/_, _≤_, _<_}
+use Prim.Native.Nat.{ℕ, _+_, _*_, _/_, _^_, _≤_, _<_}
 use mathlib.Core.Bool.{Bool, true, false, not, _&&_, _||_}
 use mathlib.Core.Option.{Option, none, some, Option·getD}
 use mathlib.Core.List.{List, [], _∷_}
@@ -36,7 +36,7 @@ use Rattle.promises.proofs.Places.{leads-place}
 use Rattle.promises.proofs.Meant.{moves-meant, disturbs-meant}
 use Rattle.promises.proofs.Idle.{blank-idle, vain-idle}
 use Rattle.promises.proofs.Lane0.{idle}
-use Rattle.promises.proofs.Answers.{unknown-zero, lane-off, write-answers, read-leaves}
+use Rattle.promises.proofs.Answers.{answers-fit, unknown-zero, lane-off, write-answers, read-leaves}
 
 -- the subsystem numbers are a row of 32 bits, none of which a one clears
 number : (b : ℕ) → b < 32 → Real (spot subsystem b)
@@ -168,3 +168,7 @@ nothing-in-other-lanes = lane-off
 -- a write answers word 0 and known mask 0
 pub writes-answer-zero : (x : World) (a : Access) → isWrite a ≡ true → (step x a .answer .word ≡ 0) × (step x a .answer .known ≡ 0)
 writes-answer-zero = write-answers
+
+-- and both are words
+pub answers-are-words : (x : World) (a : Access) → (step x a .answer .word < 2 ^ 32) × (step x a .answer .known < 2 ^ 32)
+answers-are-words = answers-fit

@@ -22,7 +22,7 @@ use Rattle.chip.specs.Trace.{World, after}
 use Rattle.promises.specs.Good.{Good}
 use Rattle.promises.specs.Width.{storedByte}
 use Rattle.promises.specs.History.{isData, isAim}
-use Rattle.promises.specs.Frame.{Aimed, Advanced, Stages, completes, madeColour}
+use Rattle.promises.specs.Frame.{Unstaged, Aimed, Advanced, Stages, completes, madeColour}
 use Rattle.promises.specs.Loads.{disturbs}
 use Rattle.promises.proofs.Widths.{kept-told}
 use Rattle.promises.proofs.Patches.{putsEntry, entryPut}
@@ -56,7 +56,7 @@ unfolding aimedAt
 aim-after x a t =
     subst (λ (d : Dac). Aimed d (laneByte 0 (a .word)))
     (sym (dac-step x a ∙ ap (λ (o : Option Dac). Option·getD o (x .state .dac)) (simp t at (does x a .dac))))
-    (record { address = refl; known = refl; component = refl; staged = refl })
+    (record { address = refl; known = refl; component = refl; staged = record { count = refl; red = refl; green = refl } })
 
 -- a palette data access
 advanced-is : (d : Dac) (n r g : ℕ) → d .component ≤ 2 → d .address < 256 → Advanced d (advanced d n r g)
@@ -85,26 +85,29 @@ advanced-stage : (d : Dac) (n r g : ℕ) → (advanced d n r g .staged ≡ n) ×
 unfolding advanced
 advanced-stage d n r g = byTest (ltb (d .component) 2) (λ q. simp q (refl, refl, refl)) (λ q. simp q (refl, refl, refl))
 
+dropped : (d : Dac) → Unstaged (advanced d 0 0 0)
+dropped d = let z = advanced-stage d 0 0 0 in record { count = z .0; red = z .1; green = z .2 }
+
 painted-stages : (d : Dac) (v : ℕ) → Stages d (afterPaint d v) v
 unfolding afterPaint redStaged
 painted-stages d v =
     record {
-      red = λ e. simp (eq-eqb (d .component) 0 e) (let z = advanced-stage d 1 v 0 in (z .0, z .1));
-      green = λ e s. simp (e, s) (let z = advanced-stage d 2 (d .red) v in (z .0, z .1, z .2));
+      red = λ e. simp (eq-eqb (d .component) 0 e) (advanced-stage d 1 v 0);
+      green = λ e s. simp (e, s) (advanced-stage d 2 (d .red) v);
       drops = λ n m. drop n (byTest (eqb (d .component) 1 && eqb (d .staged) 1) (λ q. absurd (m (eqb-true _ 1 (and-first (eqb (d .component) 1) _ q)) (eqb-true _ 1 (and-second (eqb (d .component) 1) _ q)))) (λ q. q));
     }
   where
-    drop : (d .component ≡ 0 → ⊥) → (eqb (d .component) 1 && eqb (d .staged) 1) ≡ false → afterPaint d v .staged ≡ 0
-    drop n q = simp (ne-eqb (d .component) 0 n, q) (advanced-stage d 0 0 0 .0)
+    drop : (d .component ≡ 0 → ⊥) → (eqb (d .component) 1 && eqb (d .staged) 1) ≡ false → Unstaged (afterPaint d v)
+    drop n q = simp (ne-eqb (d .component) 0 n, q) (dropped d)
 
 pub stages-after : (x : World) (a : Access) → isData x a ≡ true → isWrite a ≡ true → Stages (x .state .dac) (after x a .state .dac) (storedByte (x .state) (laneByte 0 (a .word)))
 stages-after x a t w =
     subst (λ (n : Dac). Stages (x .state .dac) n (storedByte (x .state) (laneByte 0 (a .word)))) (sym (dac-after x a t ∙ simp w))
     (subst (λ (v : ℕ). Stages (x .state .dac) (afterPaint (x .state .dac) (keptFrom (x .state) a)) v) (kept-told (x .state) a) (painted-stages (x .state .dac) (keptFrom (x .state) a)))
 
-pub drops-after : (x : World) (a : Access) → isData x a ≡ true → isWrite a ≡ false → after x a .state .dac .staged ≡ 0
+pub drops-after : (x : World) (a : Access) → isData x a ≡ true → isWrite a ≡ false → Unstaged (after x a .state .dac)
 unfolding afterPeek
-drops-after x a t w = ap (λ (n : Dac). n .staged) (dac-after x a t) ∙ simp w (advanced-stage (x .state .dac) 0 0 0 .0)
+drops-after x a t w = subst Unstaged (sym (dac-after x a t ∙ simp w)) (dropped (x .state .dac))
 
 -- anything else
 pub calm-after : (x : World) (a : Access) → disturbs x a ≡ false → after x a .state .dac ≡ x .state .dac

@@ -41,7 +41,7 @@ pub opened-holds : (w h : ℕ) (m p : List ℕ) → Openable w h m p → (q : Sp
 opened-holds w h m p o q = ap (λ (s : State). holds s q) (opens w h m p (o .accepted) .state) ∙ reset-holds w h (length m) q
 
 -- an empty palette has no entry
-zeros-at : (n k : ℕ) → _≡_ {A = ℕ} (getD (replicate n 0) k 0) 0
+pub zeros-at : (n k : ℕ) → _≡_ {A = ℕ} (getD (replicate n 0) k 0) 0
 zeros-at zero zero = refl
 zeros-at zero (suc k) = refl
 zeros-at (suc n) zero = refl

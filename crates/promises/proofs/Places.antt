@@ -98,11 +98,11 @@ header-found : (i o : ℕ) → RowAt headerFirst indirectFirst i o → headerAt 
 unfolding headerAt
 header-found i o r = found headerRows headerFirst headerCount header-part i o r
 
-indirect-there : (o : ℕ) → indirectAt o < bankCount → RowAt indirectFirst bankCount (indirectAt o) o
+pub indirect-there : (o : ℕ) → indirectAt o < bankCount → RowAt indirectFirst bankCount (indirectAt o) o
 unfolding indirectAt
 indirect-there o h = there indirectRows indirectFirst 24 indirect-part o (omega arith)
 
-indirect-found : (i o : ℕ) → RowAt indirectFirst bankCount i o → indirectAt o ≡ i
+pub indirect-found : (i o : ℕ) → RowAt indirectFirst bankCount i o → indirectAt o ≡ i
 unfolding indirectAt
 indirect-found i o r = found indirectRows indirectFirst 24 indirect-part i o r
 

@@ -22,7 +22,7 @@ use Rattle.chip.specs.declared.Place.the-variants.{Register, Blank}
 use Rattle.chip.specs.Trace.{World, step, after, run}
 use Rattle.promises.specs.Good.{Sizes, Good, statusAt}
 use Rattle.promises.specs.History.{Spot, spot, Real, holds, isData, isAim}
-use Rattle.promises.specs.Frame.{bitMoves, writesRow, moves, Moves, broughtBit, fixes, fixedIn, SameBit, Aimed, Advanced, Stages, completes, madeColour, bytePut}
+use Rattle.promises.specs.Frame.{bitMoves, writesRow, moves, Moves, broughtBit, fixes, fixedIn, SameBit, Unstaged, Aimed, Advanced, Stages, completes, madeColour, bytePut}
 use Rattle.promises.specs.Width.{storedByte}
 use Rattle.promises.specs.Places.{Leads}
 use Rattle.promises.specs.Loads.{disturbs, Disturbs}
@@ -118,7 +118,7 @@ module _ (x : World) (a : Access) (g : Good x) where
   pub data-stages : isData x a ≡ true → isWrite a ≡ true → Stages (x .state .dac) (after x a .state .dac) (storedByte (x .state) (laneByte 0 (a .word)))
   data-stages = stages-after x a
 
-  pub data-read-drops : isData x a ≡ true → isWrite a ≡ false → after x a .state .dac .staged ≡ 0
+  pub data-read-drops : isData x a ≡ true → isWrite a ≡ false → Unstaged (after x a .state .dac)
   data-read-drops = drops-after x a
 
   -- no other access alters the address, the component or what is staged

@@ -74,12 +74,18 @@ pub record SameBit (s n : State) (q : Spot) : Type 0 where
 
 -- ---- the palette's address, component and staged bytes
 
+-- nothing is staged: the count is 0, and so are the two bytes
+pub record Unstaged (d : Dac) : Type 0 where
+  pub count : d .staged ≡ 0
+  pub red : d .red ≡ 0
+  pub green : d .green ≡ 0
+
 -- after an address was set to v
 pub record Aimed (d : Dac) (v : ℕ) : Type 0 where
   pub address : d .address ≡ v
   pub known : d .known ≡ 0xFF
   pub component : d .component ≡ 0
-  pub staged : d .staged ≡ 0
+  pub staged : Unstaged d
 
 -- after a palette data access: the component goes up by one; after 2 it becomes 0 and the address goes up by one, 255 to 0
 pub record Advanced (d n : Dac) : Type 0 where
@@ -89,9 +95,9 @@ pub record Advanced (d n : Dac) : Type 0 where
 
 -- what is staged after a palette data write of a byte that is stored as v: component 0 stages red; 1 adds green where exactly red is staged; nothing is after any other
 pub record Stages (d n : Dac) (v : ℕ) : Type 0 where
-  pub red : d .component ≡ 0 → (n .staged ≡ 1) × (n .red ≡ v)
+  pub red : d .component ≡ 0 → (n .staged ≡ 1) × (n .red ≡ v) × (n .green ≡ 0)
   pub green : d .component ≡ 1 → d .staged ≡ 1 → (n .staged ≡ 2) × (n .red ≡ d .red) × (n .green ≡ v)
-  pub drops : (d .component ≡ 0 → ⊥) → (d .component ≡ 1 → d .staged ≡ 1 → ⊥) → n .staged ≡ 0
+  pub drops : (d .component ≡ 0 → ⊥) → (d .component ≡ 1 → d .staged ≡ 1 → ⊥) → Unstaged n
 
 -- ---- a palette entry
 

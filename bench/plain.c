@@ -334,7 +334,8 @@ static struct plain_answer palette_data(struct pm_state *s, const struct pm_acce
         return r;
     }
     if (!lane) return written(0);
-    uint8_t v = (uint8_t)(wide ? a->word : a->word % 64 * 4);
+    uint32_t w = a->word % 64;
+    uint8_t v = (uint8_t)(wide ? a->word : 4 * w + w / 16);
     if (d->component == 0) {
         advance(d, 1, v, 0);
     } else if (d->component == 1 && d->staged == 1) {

@@ -166,7 +166,7 @@ struct pm_dac {
     uint8_t green;     /* .. and green, as they will be stored */
 };
 
-/* The stored components are eight bits each, whichever width the palette was loaded in. */
+/* The stored components are eight bits each, whichever width the palette was loaded in: w, written with six bits, is stored as 4 * w + w / 16, so 63 as 255. */
 struct pm_palette {
     uint8_t red[256];
     uint8_t green[256];

@@ -126,7 +126,7 @@ rules! {
     WidthChangeAlters: "changing to six bits cuts the stored entries",
     WidthPicture: "the picture shows six-bit components in six-bit width",
     SixBitNoShift: "six-bit bytes are stored as they are, cut to six bits",
-    SixBitReplicates: "six-bit bytes are stored with their top bits repeated below",
+    SixBitFourTimes: "six-bit bytes are stored as 4 times, white as 252",
     SixBitReadMod: "a six-bit read gives the stored byte modulo 64",
     SixBitReadRounds: "a six-bit read rounds up",
     StageDroppedByRefusal: "a refused access drops staged bytes",
@@ -262,6 +262,18 @@ rules! {
     HighEnablesBad: "enables above 15 are bad",
     UpperOutput: "words are printed in upper case",
     ShortOutput: "words are printed without leading zeros",
+
+    // Six bits as 02, C-13 stores them. These come last, so that no number
+    // before them changes.
+    SixBitWholeByte: "the sixteenth added to a six-bit byte is that of the whole byte written",
+    SixBitWhiteOnly: "six-bit 63 is stored as 255, all else as 4 times",
+    SixBitLowOnes: "six-bit bytes are stored with ones in the two lower bits",
+    SixBitLowRepeats: "six-bit bytes are stored with their low bits repeated below",
+    SixBitScaled: "six-bit bytes are stored scaled by 255/63, to the nearest",
+    SixBitFilledAtThird: "the lower bits are filled at the third component, for all three by the width then",
+    SixBitPictureOnly: "six-bit bytes are stored as 4 times, and the picture fills lower bits that are zero",
+    SixBitReadScaled: "a six-bit read scales by 63/255, to the nearest",
+    SixBitReadSixOnly: "a six-bit read divides only bytes that a six-bit write can store",
 }
 
 /// One of the three tables, with the row in it.

@@ -637,19 +637,44 @@ impl Model {
     /// The byte to store for a byte written.
     fn widened(&self, state: &State, byte: u8) -> u8 {
         if self.eight_bits(state) || self.is(Rule::WidthIgnoredWrite) {
-            return byte;
-        }
-        let six = byte % 64;
-        if self.is(Rule::SixBitNoShift) {
-            six
-        } else if self.is(Rule::SixBitReplicates) {
-            4 * six + six / 16
+            byte
         } else {
-            4 * six
+            self.six_stored(byte)
         }
     }
 
-    /// The byte to show for a byte stored.
+    /// The byte to store for a byte written in six-bit width: 4w + w div 16,
+    /// where w is the byte modulo 64 (02, C-13).
+    fn six_stored(&self, byte: u8) -> u8 {
+        let six = byte % 64;
+        if self.is(Rule::SixBitNoShift) {
+            six
+        } else if self.is(Rule::SixBitFourTimes)
+            || self.is(Rule::SixBitFilledAtThird)
+            || self.is(Rule::SixBitPictureOnly)
+        {
+            4 * six
+        } else if self.is(Rule::SixBitWholeByte) {
+            (4 * six).wrapping_add(byte / 16)
+        } else if self.is(Rule::SixBitWhiteOnly) {
+            if six == 63 {
+                255
+            } else {
+                4 * six
+            }
+        } else if self.is(Rule::SixBitLowOnes) {
+            4 * six + 3
+        } else if self.is(Rule::SixBitLowRepeats) {
+            4 * six + six % 4
+        } else if self.is(Rule::SixBitScaled) {
+            ((255 * u32::from(six) + 31) / 63) as u8
+        } else {
+            4 * six + six / 16
+        }
+    }
+
+    /// The byte to show for a byte stored. In six-bit width that is w for what
+    /// was stored so; 02, C-13 leaves the rule for reads as 01 has it.
     fn narrowed(&self, state: &State, byte: u8) -> u8 {
         if self.eight_bits(state) || self.is(Rule::WidthIgnoredRead) {
             byte
@@ -657,6 +682,10 @@ impl Model {
             byte % 64
         } else if self.is(Rule::SixBitReadRounds) {
             (byte / 4 + u8::from(byte % 4 != 0)) % 64
+        } else if self.is(Rule::SixBitReadScaled) {
+            ((63 * u32::from(byte) + 127) / 255) as u8
+        } else if self.is(Rule::SixBitReadSixOnly) && byte % 4 != byte / 64 {
+            byte
         } else {
             byte / 4
         }
@@ -716,7 +745,7 @@ impl Model {
                 staged = if self.first_was_eight.get() {
                     byte
                 } else {
-                    4 * (byte % 64)
+                    self.six_stored(byte)
                 };
             }
         }
@@ -764,6 +793,9 @@ impl Model {
         if let Some(mut components) = stored {
             if self.is(Rule::WidthAtThird) {
                 components = components.map(|c| self.widened(state, c));
+            }
+            if self.is(Rule::SixBitFilledAtThird) && !self.eight_bits(state) {
+                components = components.map(|c| c / 4 * 4 + c / 64);
             }
             if self.is(Rule::ComponentsReversed) {
                 components.reverse();
@@ -833,7 +865,7 @@ impl Model {
         held.known |= writable;
         if self.is(Rule::WidthChangeAlters) && was_eight && !self.eight_bits(state) {
             for entry in &mut state.palette {
-                entry.components = entry.components.map(|c| c & 0xfc);
+                entry.components = entry.components.map(|c| self.six_stored(c / 4));
             }
         }
         if self.is(Rule::IndexedDropsStage) {

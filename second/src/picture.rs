@@ -189,6 +189,9 @@ impl Model {
         if self.is(Rule::WidthPicture) && state.indirect[MISC_CONTROL].value & 2 == 0 {
             components = components.map(|c| c / 4);
         }
+        if self.is(Rule::SixBitPictureOnly) {
+            components = components.map(|c| if c % 4 == 0 { c + c / 64 } else { c });
+        }
         let [red, green, blue] = components;
         COLOUR | u32::from(red) << 16 | u32::from(green) << 8 | u32::from(blue)
     }

@@ -233,14 +233,19 @@ fn other_values(tests: &mut Tests) {
         tests.equal("the last word", b.read(target, 0xffff_fffc, 15), (5, 0, 0));
         tests.done(b);
     }
+    // 01's last value as 02, C-13 amends it, with the two that stand beside it.
     let mut b = tests.usual();
-    b.entry(7, [63, 0, 0]);
+    b.entry(7, [63, 0, 16]);
     tests.equal(
-        "six-bit red stored",
+        "six-bit components stored",
         b.state.palette[7].components,
-        [252, 0, 0],
+        [255, 0, 65],
     );
-    tests.equal("six-bit red read", b.entry_read(7)[0], (0, 63, 0xff));
+    tests.equal(
+        "six-bit components read",
+        b.entry_read(7),
+        [(0, 63, 0xff), (0, 0, 0xff), (0, 16, 0xff)],
+    );
     tests.done(b);
 }
 
@@ -726,20 +731,47 @@ fn palette_stage(tests: &mut Tests) {
 
 fn palette_width(tests: &mut Tests) {
     let is = |byte: u32| (0, byte, 0xff);
-    // Every byte written and read in either width.
+    // Every byte written and read in either width. 02, C-13 in another form:
+    // 4w + w div 16 is a sixteenth of 65w, rounded down.
     for byte in 0..256u32 {
-        for (width, stored) in [(0, 4 * (byte % 64)), (2, byte)] {
+        let six = byte % 64;
+        for (width, stored, narrow) in [(0, 65 * six / 16, six), (2, byte, byte / 4)] {
             let mut b = tests.usual();
             b.index(0x1e, width);
             b.entry(3, [byte; 3]);
             tests.equal("stored", b.state.palette[3].components, [stored as u8; 3]);
             b.index(0x1e, 0x3d);
-            tests.equal("read by six", b.entry_read(3), [is(stored / 4); 3]);
+            tests.equal("read by six", b.entry_read(3), [is(narrow); 3]);
             b.index(0x1e, 0x02);
             tests.equal("read by eight", b.entry_read(3), [is(stored); 3]);
             tests.done(b);
         }
     }
+    // Six bits rise from black to white, and white is white.
+    let mut b = tests.usual();
+    b.live(0, 0);
+    b.index(0x1e, 0);
+    for six in 0..64 {
+        b.entry(six, [six; 3]);
+    }
+    let reds: Vec<u8> = b.state.palette[..64]
+        .iter()
+        .map(|entry| entry.components[0])
+        .collect();
+    tests.equal("rising", reds.windows(2).all(|two| two[0] < two[1]), true);
+    tests.equal("black and white", (reds[0], reds[63]), (0, 255));
+    tests.equal("white", b.write(1, 0, 15, 0x3f3f_3f3f), (0, 4));
+    tests.equal("white", b.picture.clone(), vec![0x01ff_ffff; 4]);
+    // The bytes of a state kept from before C-13 stay as they are (D-40).
+    b.index(0x18, 0);
+    b.state.palette[63].components = [252; 3];
+    for (width, shown) in [(2, 252), (0, 63), (2, 252)] {
+        b.index(0x1e, width);
+        tests.equal("kept", b.entry_read(63), [is(shown); 3]);
+    }
+    tests.equal("kept", b.index(0x18, 0x10), (0, 4));
+    tests.equal("kept", b.picture.clone(), vec![0x01fc_fcfc; 4]);
+    tests.done(b);
     // The width changes between two components.
     for widths in 0..8 {
         let mut b = tests.usual();
@@ -749,7 +781,7 @@ fn palette_width(tests: &mut Tests) {
             let eight = widths >> place & 1 == 1;
             b.write(0, 0x4050, 1, if eight { 2 } else { 0 });
             b.write(0, 0x4008, 1, 0xd7);
-            *stored = if eight { 0xd7 } else { 0x5c };
+            *stored = if eight { 0xd7 } else { 0x5d };
         }
         tests.equal("mixed widths", b.state.palette[0x1e].components, expected);
         b.write(0, 0x4000, 1, 0x1e);

@@ -2,8 +2,13 @@
 
 use std::io::BufReader;
 
-use crate::breaks::Break;
-use crate::trace::{Lines, Machine, Outcome, Setup};
+use crate::bits::byte_of;
+use crate::breaks::{Break, Rule};
+use crate::model::{DONE, REGION_ZERO};
+use crate::offsets::PALETTE_DATA;
+use crate::state::{Stage, State};
+use crate::tables::MISC_CONTROL;
+use crate::trace::{self, Lines, Machine, Setup};
 
 pub struct Stats {
     pub lines: usize,
@@ -14,11 +19,28 @@ pub struct Stats {
     /// Reads that were done, and those of them that showed something known.
     pub reads: usize,
     pub telling: usize,
+    pub six: Six,
+}
+
+/// How often a trace touches what 02, C-13 says of six bits.
+#[derive(Default)]
+pub struct Six {
+    /// Components written in six-bit width, and those of them whose six bits
+    /// are 16 or more: C-13 stores another byte for them.
+    pub written: usize,
+    pub moved: usize,
+    /// How often an entry was stored that holds such a byte.
+    pub entries: usize,
+    /// Answers that differ from those before C-13: words, which are eight-bit
+    /// reads of such a byte, and changed counts. No line has both.
+    pub other_words: usize,
+    pub other_counts: usize,
 }
 
 /// Runs a trace and counts.
 pub fn of(trace: &[u8], setup: Setup) -> Result<Stats, String> {
     let mut machine = Machine::open(Break::Nothing, setup, false)?;
+    let mut earlier = Machine::open(Break::Rule(Rule::SixBitFourTimes), setup, false)?;
     let mut stats = Stats {
         lines: 0,
         bad: 0,
@@ -26,28 +48,67 @@ pub fn of(trace: &[u8], setup: Setup) -> Result<Stats, String> {
         changing: 0,
         reads: 0,
         telling: 0,
+        six: Six::default(),
     };
     let mut lines = Lines::new(Break::Nothing);
     let mut input = BufReader::new(trace);
     while let Some(line) = lines.next(&mut input).map_err(|e| e.to_string())? {
         stats.lines += 1;
-        match machine.line(&line)? {
-            Outcome::Bad => stats.bad += 1,
-            Outcome::Answered(answer) => {
-                stats.by_status[answer.status as usize] += 1;
-                if answer.changed != 0 {
-                    stats.changing += 1;
-                }
-                if line[0] == b'r' && answer.status == 0 {
-                    stats.reads += 1;
-                    if answer.known != 0 {
-                        stats.telling += 1;
-                    }
-                }
+        let Some(access) = trace::parse(&line, &Break::Nothing) else {
+            stats.bad += 1;
+            continue;
+        };
+        let completed = completed_next(machine.state());
+        let answer = machine.access(&access)?;
+        let answer_earlier = earlier.access(&access)?;
+        stats.by_status[answer.status as usize] += 1;
+        if answer.changed != 0 {
+            stats.changing += 1;
+        }
+        if !access.write && answer.status == DONE {
+            stats.reads += 1;
+            if answer.known != 0 {
+                stats.telling += 1;
             }
+        }
+        let palette_data = access.target == REGION_ZERO && access.offset == PALETTE_DATA;
+        if palette_data && access.write && access.enables & 1 == 1 && answer.status == DONE {
+            let byte = byte_of(access.word, 0);
+            let six = &mut stats.six;
+            six.count(byte, completed, machine.state(), earlier.state());
+        }
+        if answer.word != answer_earlier.word {
+            stats.six.other_words += 1;
+        }
+        if answer.changed != answer_earlier.changed {
+            stats.six.other_counts += 1;
         }
     }
     Ok(stats)
+}
+
+/// The entry that a palette write would complete.
+fn completed_next(state: &State) -> Option<usize> {
+    match (state.component, state.stage) {
+        (2, Stage::RedGreen(..)) => Some(usize::from(state.address)),
+        _ => None,
+    }
+}
+
+impl Six {
+    /// Counts a component written, with the entry that it completed and the
+    /// states that it left by the rules now and by those before C-13.
+    fn count(&mut self, byte: u8, completed: Option<usize>, state: &State, earlier: &State) {
+        if state.indirect[MISC_CONTROL].value & 2 == 0 {
+            self.written += 1;
+            if byte % 64 >= 16 {
+                self.moved += 1;
+            }
+        }
+        if completed.is_some_and(|number| state.palette[number] != earlier.palette[number]) {
+            self.entries += 1;
+        }
+    }
 }
 
 impl Stats {
@@ -69,6 +130,17 @@ impl Stats {
         text += &format!(
             "reads done: {}, with known bits: {}\n",
             self.reads, self.telling
+        );
+        let six = &self.six;
+        text += &format!(
+            "six-bit components written: {}, of 16 or more: {}, entries stored with one: {}\n",
+            six.written, six.moved, six.entries
+        );
+        text += &format!(
+            "other than before C-13: {} lines, {} palette reads and {} changed counts\n",
+            six.other_words + six.other_counts,
+            six.other_words,
+            six.other_counts
         );
         text
     }

@@ -92,6 +92,10 @@ impl Machine {
         }
     }
 
+    pub fn state(&self) -> &State {
+        &self.state
+    }
+
     /// The picture as it is now, as the bytes of a file.
     pub fn picture_file(&self) -> Vec<u8> {
         ppm::file(self.state.width, self.state.height, &self.picture)

@@ -1,6 +1,6 @@
 -- The three demands on the code: what follows from the contracts of `open` and `access` alone, for any call and for any sequence of calls in which
 -- nobody else alters state, memory or picture. A run of calls is a run of the definitions (Calls), of which the other promises speak. Assumes nothing.
-use Prim.Native.Nat.{ℕ, _*_, _≤_, _<_}
+use Prim.Native.Nat.{ℕ, _*_, _%_, _≤_, _<_}
 use mathlib.Core.Bool.{Bool, true, false}
 use mathlib.Core.List.{List}
 use mathlib.Core.Logic.{_↔_, _⊎_}
@@ -26,7 +26,8 @@ use Rattle.promises.specs.History.{shows, Spot, Real, holds}
 use Rattle.promises.specs.Frame.{moves, broughtBit, SameBit}
 use Rattle.promises.specs.Refusals.{Words, Passes, Fails, OpeningHas}
 use Rattle.promises.specs.Origin.{BitStored, BitStated, ByteStored, ByteLent}
-use Rattle.promises.specs.Loads.{Loaded}
+use Rattle.promises.specs.Loads.{Loaded, ReadsPart, written, writtenIn}
+use Rattle.promises.specs.Width.{eightBits}
 use Rattle.promises.specs.Told.{Told, ShownBy}
 use Rattle.promises.specs.Dots.{Ruled, dotsChanged}
 use Rattle.promises.specs.View.{SameWindow, command, ButRow}
@@ -35,6 +36,7 @@ use Rattle.promises.proofs.Promise2States.{opening-gives, access-good, access-w
 use Rattle.promises.proofs.Promise3Only.{bits-move, bits-stay, without-lane-0, zero-where-unknown}
 use Rattle.promises.proofs.Promise4Origins.{bit-exactly, byte-exactly, entry-exactly}
 use Rattle.promises.proofs.Promise4Known.{known-exactly}
+use Rattle.promises.proofs.Promise4Widths.{six-bits-back}
 use Rattle.promises.proofs.Promise5Picture.{picture-right, count-right, lengths-stay, dot-ruled}
 use Rattle.promises.proofs.Promise6Altered.{other-dots-stay, differing-dots-change}
 use Rattle.promises.proofs.Promise7Depends.{aperture-depends, command-gates-nothing, command-alters-nothing}
@@ -226,3 +228,10 @@ module _ (w h : ℕ) (m p : List ℕ) (r : Opened) (x : World) (c : OpenCalled w
       pub calls-no-untold-zero : (a : Access) (s : Answer) (y : World) → Called z a s y → (b : ℕ) → b < 32
           → (Told (opened w h m p) l a b false → ⊥) → shows s b ≡ some false → ⊥
       calls-no-untold-zero a s y e b hb n f = n (calls-known a s y e b hb false .0 f .told)
+
+      -- 02, C-13: what is written with six bits, and read with six, is read back modulo 64
+      pub calls-six-bits : (a : Access) (s : Answer) (y : World) → Called z a s y → (f : ReadsPart (opened w h m p) l a) → eightBits (writtenIn f) ≡ false → eightBits (z .state) ≡ false
+          → (s .word ≡ written f % 64) × (s .known ≡ 0xFF)
+      calls-six-bits a s y e f g =
+          of-call z a s y e (λ (q : Answer) (u : World). eightBits (z .state) ≡ false → (q .word ≡ written f % 64) × (q .known ≡ 0xFF))
+          (promised (λ (u : World). eightBits (u .state) ≡ false → (step u a .answer .word ≡ written f % 64) × (step u a .answer .known ≡ 0xFF)) (six-bits-back w h m p openable l a f g))

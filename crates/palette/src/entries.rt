@@ -50,14 +50,15 @@ fn wide_of(b: u8) -> u32
     b as u32
 }
 
-// A byte as it is stored: with 8 bits as it is, with 6 bits 4 times its lowest six.
+// A byte as it is stored: with 8 bits as it is, with 6 bits its lowest six, and the upper two of them once more below, so that full scale is 255 (C-13).
 pub fn kept_as(wide: bool, v: u8) -> u8
     ensures { λ r. ⌜ r ≡ keptAs wide v ⌝ }
 {
     if wide {
         return v;
     }
-    v % 64 * 4
+    let w = v % 64;
+    4 * w + w / 16
 }
 
 // A stored byte as it is read: with 8 bits as it is, with 6 bits divided by 4.

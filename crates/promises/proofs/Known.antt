@@ -47,9 +47,14 @@ use Rattle.promises.proofs.Promise4Origins.{bit-exactly, byte-exactly, 
 
 -- ---- bits as they are seen
 
-seen-some : (k u v : Bool) → seenBit k u ≡ some v → (k ≡ true) × (v ≡ u)
+pub seen-some : (k u v : Bool) → seenBit k u ≡ some v → (k ≡ true) × (v ≡ u)
 unfolding seenBit
 seen-some k u v e = let z = picked k (some u) v e in (z .0, sym (some-is {x = u} (z .1)))
+
+pub seen-none : (k u : Bool) → seenBit k u ≡ none → k ≡ false
+unfolding seenBit
+seen-none true u e = absurd-put (some u) u e refl
+seen-none false u e = refl
 
 seen-is : (k u v : Bool) → k ≡ true → v ≡ u → seenBit k u ≡ some v
 unfolding seenBit
@@ -63,7 +68,7 @@ byte-bits-all : everyTo byte-bits 32 ≡ true
 unfolding byte-bits bit
 byte-bits-all = refl
 
-in-byte : (b : ℕ) → b < 32 → bit b 0xFF ≡ ltb b 8
+pub in-byte : (b : ℕ) → b < 32 → bit b 0xFF ≡ ltb b 8
 unfolding byte-bits
 in-byte b h = beq-true _ _ (every-at byte-bits 32 b byte-bits-all h)
 

@@ -39,6 +39,8 @@ pub mod Promise4Origins
 pub mod Promise4Reads
 pub mod Known
 pub mod Promise4Known
+pub mod ReadBack
+pub mod Promise4Widths
 pub mod Promise5Picture
 pub mod Promise6Altered
 pub mod Promise7Depends

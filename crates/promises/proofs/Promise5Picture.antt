@@ -8,17 +8,15 @@ use native.Mathlib.Nat.{le-of-suc-le-suc}
 use native.Mathlib.Omega.{arith}
 use lib.Dec.{eqb}
 use lib.ListN.{getD, length}
-use Rattle.bits.specs.Word.{laneByte}
-use Rattle.bits.proofs.Cases.{byTest, pick-by}
-use Rattle.bits.proofs.Lanes.{lane-lt}
+use Rattle.bits.proofs.Cases.{byTest}
 use Rattle.chip.specs.declared.State.{State}
 use Rattle.chip.specs.declared.Access.{Access}
 use Rattle.chip.specs.Step.{openOf}
 use Rattle.chip.specs.Picture.{diffs, drawnFrom, drawn, wordOf}
 use Rattle.chip.specs.Trace.{World, opened, step, after, run}
 use Rattle.promises.specs.Good.{Openable}
-use Rattle.promises.specs.Width.{eightBits, storedByte}
 use Rattle.promises.specs.Dots.{ByteColours, Ruled, dotsChanged}
+use Rattle.promises.proofs.Widths.{stored-lt}
 use Rattle.promises.proofs.Worlds.{memory-length, picture-length}
 use Rattle.promises.proofs.Pictures.{right-along, opened-right, counted}
 use Rattle.promises.proofs.Dots.{rules}
@@ -55,10 +53,6 @@ drawn-at f j (suc n) (suc i) h =
 dot-of : (s : State) (m : List ℕ) (i : ℕ) → i < length (drawn s m) → getD (drawn s m) i 0 ≡ wordOf s m i
 unfolding drawn
 dot-of s m i h = drawn-at (wordOf s m) 0 (s .width * s .height) i h ∙ ap (wordOf s m) (let e : 0 + i ≡ i = omega arith in e)
-
-stored-lt : (s : State) (w : ℕ) → storedByte s (laneByte 0 w) < 256
-unfolding storedByte
-stored-lt s w = pick-by (λ (k : ℕ). k < 256) (eightBits s) _ _ (lane-lt 0 w) (omega arith)
 
 -- the word of a dot, of any state whose stored entries are of bytes, is the one of 01's rules
 pub word-ruled : (s : State) (m : List ℕ) (i : ℕ) → ByteColours (s .palette) → Ruled s m i (wordOf s m i)

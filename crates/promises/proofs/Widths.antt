@@ -1,10 +1,11 @@
 -- The width does to a byte what 01 says: each conversion of the definitions is the one of specs/Width.
 -- By the two widths. Assumes nothing.
-use Prim.Native.Nat.{ℕ, _*_, _/_, _%_}
+use Prim.Native.Nat.{ℕ, _<_}
 use mathlib.Core.Path.{_≡_, refl}
 use native.Mathlib.Omega.{arith}
 use Rattle.bits.specs.Word.{laneByte}
-use Rattle.bits.proofs.Cases.{byTest}
+use Rattle.bits.proofs.Cases.{pick-by}
+use Rattle.bits.proofs.Lanes.{lane-lt}
 use Rattle.chip.specs.declared.State.{State}
 use Rattle.chip.specs.declared.Access.{Access}
 use Rattle.chip.specs.declared.Colour.{Colour}
@@ -15,10 +16,12 @@ use Rattle.promises.specs.Width.{eightBits, storedByte, readByte, compon
 -- the byte of a palette data write
 pub kept-told : (s : State) (a : Access) → keptFrom s a ≡ storedByte s (laneByte 0 (a .word))
 unfolding keptFrom keptAs wide storedByte eightBits
-kept-told s a =
-    byTest (eightBits s)
-    (λ q. simp q)
-    (λ q. simp q (let e : laneByte 0 (a .word) % 64 * 4 ≡ 4 * (laneByte 0 (a .word) % 64) = omega arith in e))
+kept-told s a = refl
+
+-- .. which is one of eight bits
+pub stored-lt : (s : State) (w : ℕ) → storedByte s (laneByte 0 w) < 256
+unfolding storedByte
+stored-lt s w = pick-by (λ (k : ℕ). k < 256) (eightBits s) _ _ (lane-lt 0 w) (omega arith)
 
 -- a component of an entry, as it is read
 pub shown-told : (s : State) (c : ℕ) (x : Colour) → shownAs (wide s) (partOf c x) ≡ readByte s (componentOf c x)

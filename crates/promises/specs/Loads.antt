@@ -4,8 +4,11 @@ use mathlib.Core.Bool.{Bool, true, not, _&&_, _||_}
 use mathlib.Core.List.{List, [], _∷_, _++_}
 use mathlib.Core.Logic.{_⊎_}
 use mathlib.Core.Path.{_≡_}
+use lib.Dec.{eqb}
+use Rattle.bits.specs.Choose.{pick}
 use Rattle.bits.specs.Bit.{bit}
 use Rattle.bits.specs.Word.{laneByte}
+use Rattle.chip.specs.declared.State.{State}
 use Rattle.chip.specs.declared.Access.{Access}
 use Rattle.chip.specs.declared.Colour.{Colour}
 use Rattle.chip.specs.declared.Place.the-variants.{Address, PaletteData}
@@ -15,7 +18,7 @@ use Rattle.chip.specs.Trace.{World, after, run}
 use Rattle.promises.specs.Good.{statusAt}
 use Rattle.promises.specs.Places.{Leads}
 use Rattle.promises.specs.Width.{storedByte}
-use Rattle.promises.specs.History.{isData, isAim}
+use Rattle.promises.specs.History.{AcceptedRead, isData, isAim}
 
 -- an accepted write, with lane 0, of component c of entry e, whose byte is stored as v by the width of that moment
 pub record WritesPart (x : World) (a : Access) (e c v : ℕ) : Type 0 where
@@ -69,3 +72,27 @@ pub record Loaded (x : World) (l : List Access) (e : ℕ) (c : Colour) : Type 0 
   pub split : l ≡ before ++ by ∷ rest
   pub load : Load x before by e c
   pub last : NoLoad x (before ++ by ∷ []) rest e
+
+-- ---- a component that is read back
+
+-- a, made after list l, is an accepted palette data read with lane 0 of an entry that the list loaded
+pub record ReadsPart (x : World) (l : List Access) (a : Access) : Type 0 where
+  pub read : AcceptedRead (run x l) a
+  pub place : Leads (run x l .state) a PaletteData
+  pub lane : bit 0 (a .enables) ≡ true
+  pub colour : Colour
+  pub loaded : Loaded x l (run x l .state .dac .address) colour
+
+-- the access of a load that wrote component i, and the world that it was made at
+abbrev pub partBy : {x : World} {l : List Access} {a : Access} {e : ℕ} {c : Colour} → Load x l a e c → ℕ → Access
+partBy {x} {l} {a} f i = pick (eqb i 0) (f .red) (pick (eqb i 1) (f .green) a)
+
+abbrev pub partAt : {x : World} {l : List Access} {a : Access} {e : ℕ} {c : Colour} → Load x l a e c → ℕ → World
+partAt {x} {l} f i = pick (eqb i 0) (run x (f .start)) (pick (eqb i 1) (run x (f .start ++ f .red ∷ f .gap)) (run x l))
+
+-- the byte that was written as the component which is read, and the state of that moment
+abbrev pub written : {x : World} {l : List Access} {a : Access} → ReadsPart x l a → ℕ
+written {x} {l} f = laneByte 0 (partBy (f .loaded .load) (run x l .state .dac .component) .word)
+
+abbrev pub writtenIn : {x : World} {l : List Access} {a : Access} → ReadsPart x l a → State
+writtenIn {x} {l} f = partAt (f .loaded .load) (run x l .state .dac .component) .state

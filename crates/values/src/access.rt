@@ -84,7 +84,7 @@ fn in_both_widths(memory: &mut [u8], picture: &mut [u32]) {
     red_read(t, memory, picture);
 }
 
-// Red 63 is written in six bits and read back as 63; in eight bits the stored byte is read as it is, 252.
+// Red 63 is written in six bits and read back as 63; in eight bits the stored byte is read as it is, 255.
 pub(crate) fn six_bit_red() {
     say(b"six-bit red\n");
     let mut memory = [0u8; 16];

@@ -132,6 +132,9 @@ static void palette_loads(void) {
         work[0] = write_of(PM_REGION_0, 0x4000, 15, 0);
         for (unsigned i = 1; i <= 768; i++) work[i] = write_of(PM_REGION_0, 0x4008, 15, random_word(&seed));
         measure(shown ? "palette load, 256 entries, 640 by 480" : "palette load, 256 entries, 640 by 480, colour mode off", 769);
+        if (shown) continue;
+        both_index(0x1E, 0);
+        measure("palette load, 256 entries, colour mode off, six bits", 769);
     }
 }
 

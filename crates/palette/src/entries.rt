@@ -50,7 +50,8 @@ fn wide_of(b: u8) -> u32
     b as u32
 }
 
-// A byte as it is stored: with 8 bits as it is, with 6 bits its lowest six, and the upper two of them once more below, so that full scale is 255 (C-13).
+// A byte as it is stored: with 8 bits as it is, with 6 bits its lowest six, and the upper two of them once more below (C-13): full
+// scale is 255.
 pub fn kept_as(wide: bool, v: u8) -> u8
     ensures { λ r. ⌜ r ≡ keptAs wide v ⌝ }
 {

@@ -36,9 +36,9 @@ module _ (s : State) (six : eightBits s ≡ false) where
   unfolding storedByte
   six-bits-count v = simp six (omega arith)
 
-  pub six-bits-ends : (storedByte s 0 ≡ 0) × (storedByte s 16 ≡ 65) × (storedByte s 63 ≡ 255)
+  pub six-bits-values : (storedByte s 0 ≡ 0) × (storedByte s 16 ≡ 65) × (storedByte s 63 ≡ 255)
   unfolding storedByte
-  six-bits-ends = simp six (refl, refl, refl)
+  six-bits-values = simp six (refl, refl, refl)
 
   pub six-bits-rise : (v w : ℕ) → v < w → w < 64 → storedByte s v < storedByte s w
   unfolding storedByte

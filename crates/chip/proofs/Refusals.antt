@@ -1,5 +1,5 @@
 -- What a direction is; what holds of an access and of an opening that is not refused: each line of 01's table under its name.
--- From Lines.none-holds; no other file counts the lines. Assumes nothing.
+-- From Lines.none-holds; no other file of this crate counts the lines. Assumes nothing.
 use Prim.Native.Nat.{ℕ, _*_, _%_, _≤_}
 use mathlib.Core.Bool.{true, false, not, _&&_}
 use mathlib.Core.Path.{_≡_, refl, ap}

@@ -35,7 +35,7 @@ pub record InVain (i : ℕ) : Type 0 where
 pub record Named : Type 0 where
   -- no header access is refused as 6
   pub header : (i o : ℕ) → RowAt headerFirst indirectFirst i o → (bankRow i .reads ≡ true) × (bankRow i .writes ≡ true)
-  -- ByDMAComplete, Reboot, which reads zero, and the two status registers
+  -- ByDMAComplete, Reboot and the two status registers
   pub complete : (i : ℕ) → RowAt 0 regionCount i 0xE8 → InVain i
   pub reboot : (i : ℕ) → RowAt 0 regionCount i 0x1000 → InVain i
   pub status : (i : ℕ) → RowAt indirectFirst bankCount i 0x29 ⊎ RowAt indirectFirst bankCount i 0x33 → InVain i

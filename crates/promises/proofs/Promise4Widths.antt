@@ -1,6 +1,6 @@
 -- Promise 4, the two widths of a palette component (01, RAMDAC, with 02, C-13): what is stored of a byte, and what a read gives back of it.
 -- By the two widths and arithmetic, bit by bit over the 64 values of six bits at once; what a read answers, from ReadBack. Assumes nothing.
-use Prim.Native.Nat.{ℕ, _+_, _-_, _*_, _/_, _%_, _^_, _<_}
+use Prim.Native.Nat.{ℕ, _+_, _-_, _*_, _/_, _%_, _<_}
 use mathlib.Core.Bool.{Bool, true, false, Bool·beq}
 use mathlib.Core.List.{List}
 use mathlib.Core.Path.{_≡_, refl, _∙_}

@@ -1,5 +1,5 @@
--- The width does to a byte what 01 says: each conversion of the definitions is the one of specs/Width.
--- By the two widths. Assumes nothing.
+-- The width does to a byte what 01, with 02, C-13, says: each conversion of the definitions is the one of specs/Width, and what is stored is a byte.
+-- By computing, and the last by the two widths. Assumes nothing.
 use Prim.Native.Nat.{ℕ, _<_}
 use mathlib.Core.Path.{_≡_, refl}
 use native.Mathlib.Omega.{arith}

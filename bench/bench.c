@@ -152,6 +152,17 @@ static void memory_writes(void) {
     measure("aperture write, four dots, 1,024 by 1,024", 100000);
     for (unsigned i = 0; i < 100000; i++) work[i] = read_of(PM_APERTURE_ONE, i * 4 % (1024 * 1024));
     measure("aperture read, 1,024 by 1,024", 100000);
+    static const char *const swapped[2][2] = {
+        { "aperture write, four dots, byte swapped", "aperture read, byte swapped" },
+        { "aperture write, four dots, half-word swapped", "aperture read, half-word swapped" },
+    };
+    for (unsigned code = 1; code <= 2; code++) {
+        both(write_of(PM_REGION_0, 0x50, 15, code));
+        for (unsigned i = 0; i < 100000; i++) work[i] = write_of(PM_APERTURE_ONE, i * 4 % (1024 * 1024), 15, i * 0x01030507u);
+        measure(swapped[code - 1][0], 100000);
+        for (unsigned i = 0; i < 100000; i++) work[i] = read_of(PM_APERTURE_ONE, i * 4 % (1024 * 1024));
+        measure(swapped[code - 1][1], 100000);
+    }
 }
 
 static void full_redraws(void) {

@@ -215,7 +215,7 @@ static uint32_t redraw_byte(const struct pm_state *s, const struct view *v, uint
 
 /* ---- apertures ---- */
 
-/* the lane of memory byte o + i, by swap code */
+/* the lane of memory byte o + i, by swap code: the rule of 01 written out, so that the two models do not share a way to it */
 static const uint8_t lane_of[3][4] = { { 0, 1, 2, 3 }, { 3, 2, 1, 0 }, { 2, 3, 0, 1 } };
 
 static uint32_t write_memory(const struct pm_state *s, const struct pm_access *a, unsigned swap, uint8_t *memory, uint32_t *picture) {

@@ -197,19 +197,15 @@ if "--meant" in sys.argv:
 # -------------------------------------------------- writing through apertures
 
 
+def lane_of(place, mode):
+    """The lane that a byte of memory is exchanged with (01, Apertures)."""
+    i = place % 4
+    return {STANDARD: i, BYTE_SWAPPED: 3 - i, HALF_WORD_SWAPPED: (i + 2) % 4}[mode]
+
+
 def word_of(four, mode):
     """The word that puts four bytes into memory in their order."""
-    lanes = {
-        STANDARD: (0, 1, 2, 3),
-        BYTE_SWAPPED: (3, 2, 1, 0),
-        HALF_WORD_SWAPPED: (2, 3, 0, 1),
-    }[mode]
-    return sum(byte << 8 * lane for byte, lane in zip(four, lanes))
-
-
-def lane_of(place, mode):
-    """The lane that a byte of memory is exchanged with."""
-    return {STANDARD: place % 4, BYTE_SWAPPED: 3 - place % 4, HALF_WORD_SWAPPED: place % 4 ^ 2}[mode]
+    return sum(byte << 8 * lane_of(i, mode) for i, byte in enumerate(four))
 
 
 def rows(target, mode, top, bottom, but=()):

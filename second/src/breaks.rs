@@ -263,8 +263,8 @@ rules! {
     UpperOutput: "words are printed in upper case",
     ShortOutput: "words are printed without leading zeros",
 
-    // Six bits as 02, C-13 stores them. These come last, so that no number
-    // before them changes.
+    // Six bits as 02, C-13 stores them. From here on whatever is new comes last,
+    // so that no number before it changes.
     SixBitWholeByte: "the sixteenth added to a six-bit byte is that of the whole byte written",
     SixBitWhiteOnly: "six-bit 63 is stored as 255, all else as 4 times",
     SixBitLowOnes: "six-bit bytes are stored with ones in the two lower bits",
@@ -274,6 +274,21 @@ rules! {
     SixBitPictureOnly: "six-bit bytes are stored as 4 times, and the picture fills lower bits that are zero",
     SixBitReadScaled: "a six-bit read scales by 63/255, to the nearest",
     SixBitReadSixOnly: "a six-bit read divides only bytes that a six-bit write can store",
+
+    // Lanes by rule, 02, C-17.
+    HalfSwapRotates: "half-word swap turns lanes by one",
+    HalfSwapTurnsOn: "half-word swap turns lanes by one, and a read turns them on instead of back",
+    HalfSwapNoModulo: "half-word swap gives lanes to bytes 0 and 1 only",
+    HalfSwapReadByte: "a half-word swapped read is byte swapped",
+    ByteSwapWriteHalf: "a byte-swapped write is half-word swapped",
+    ByteSwapOuter: "byte swap exchanges the outer two bytes only",
+    SwapLaneByWord: "in a swapped mode byte i uses the lane of byte (o / 4 + i) mod 4",
+    LaneByWord: "in every mode byte i uses the lane of byte (o / 4 + i) mod 4",
+    OneLanesByTwo: "aperture one is served by ApertureOne and swapped by ApertureTwo",
+    TwoLanesByOne: "aperture two is served by ApertureTwo and swapped by ApertureOne",
+    SwapCodeAlone: "swap codes 1 and 2 count as standard while any other control bit is set",
+    SwapWriteClears: "a swapped write stores zero where the lane is not enabled",
+    SwapReadPacked: "a swapped read moves the bytes of enabled lanes down to the lowest lanes",
 }
 
 /// One of the three tables, with the row in it.

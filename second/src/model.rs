@@ -53,9 +53,9 @@ pub struct Model {
     first_was_eight: Cell<bool>,
 }
 
-/// How an aperture arranges bytes.
+/// How an aperture arranges bytes. The served ones are numbered as their codes.
 #[derive(Clone, Copy, PartialEq, Eq, Debug)]
-enum Order {
+pub enum Order {
     Standard,
     ByteSwapped,
     HalfSwapped,
@@ -973,7 +973,7 @@ impl Model {
     // ----- the apertures -----
 
     /// How an aperture arranges bytes, by its control register.
-    fn order(&self, state: &State, target: u32) -> Order {
+    pub fn order(&self, state: &State, target: u32) -> Order {
         let mut offset = if target == APERTURE_ONE {
             APERTURE_ONE_CONTROL
         } else {
@@ -993,8 +993,10 @@ impl Model {
         if packed || svga || rom || details {
             return Order::NotServed;
         }
+        let others = control & !3 != 0 && self.is(Rule::SwapCodeAlone);
         match control & 3 {
             0 => Order::Standard,
+            1 | 2 if others => Order::Standard,
             1 if self.is(Rule::SwapCodesExchanged) => Order::HalfSwapped,
             2 if self.is(Rule::SwapCodesExchanged) => Order::ByteSwapped,
             1 => Order::ByteSwapped,
@@ -1005,15 +1007,49 @@ impl Model {
         }
     }
 
-    /// The lane that memory byte `number` of a word exchanges with.
-    fn lane_for(&self, order: Order, number: u32) -> u32 {
+    /// How the bytes of an access are arranged. Only breaks tell reads from writes
+    /// here or look at the other aperture; not served there, it is standard here.
+    fn order_of(&self, state: &State, access: &Access) -> Order {
+        let target = match access.target {
+            APERTURE_ONE if self.is(Rule::OneLanesByTwo) => APERTURE_TWO,
+            APERTURE_TWO if self.is(Rule::TwoLanesByOne) => APERTURE_ONE,
+            own => own,
+        };
+        match (self.order(state, target), access.write) {
+            (_, false) if self.is(Rule::SwapReadPlain) => Order::Standard,
+            (_, true) if self.is(Rule::SwapWritePlain) => Order::Standard,
+            (Order::HalfSwapped, false) if self.is(Rule::HalfSwapReadByte) => Order::ByteSwapped,
+            (Order::ByteSwapped, true) if self.is(Rule::ByteSwapWriteHalf) => Order::HalfSwapped,
+            (order, _) => order,
+        }
+    }
+
+    /// The lane that byte `number` of the four exchanges with, by 01's rule.
+    pub fn lane_for(&self, order: Order, number: u32) -> u32 {
         match order {
             Order::ByteSwapped if self.is(Rule::ByteSwapRotates) => (number + 1) % 4,
+            Order::ByteSwapped if self.is(Rule::ByteSwapOuter) && number % 3 != 0 => number,
             Order::ByteSwapped => 3 - number,
             Order::HalfSwapped if self.is(Rule::HalfSwapPairs) => number ^ 1,
+            Order::HalfSwapped if self.is(Rule::HalfSwapRotates) => (number + 1) % 4,
+            Order::HalfSwapped if self.is(Rule::HalfSwapNoModulo) => number + 2,
             Order::HalfSwapped => (number + 2) % 4,
             Order::Standard | Order::NotServed => number,
         }
+    }
+
+    /// The same for an access; reads and writes both ask here. Only breaks look at
+    /// more than the order. One of them gives lanes above 3, which move nothing.
+    fn lane_in(&self, order: Order, access: &Access, number: u32) -> u32 {
+        let swapped = order != Order::Standard;
+        if self.is(Rule::LaneByWord) || self.is(Rule::SwapLaneByWord) && swapped {
+            return self.lane_for(order, (access.offset / 4 + number) % 4);
+        }
+        if self.is(Rule::HalfSwapTurnsOn) && order == Order::HalfSwapped {
+            let by = if access.write { 1 } else { 3 };
+            return (number + by) % 4;
+        }
+        self.lane_for(order, number)
     }
 
     /// The place in memory of byte `number` of an aperture word.
@@ -1030,23 +1066,23 @@ impl Model {
     }
 
     fn aperture_read(&self, state: &State, memory: &[u8], access: &Access) -> Bits {
-        let mut order = self.order(state, access.target);
-        if self.is(Rule::SwapReadPlain) {
-            order = Order::Standard;
-        }
+        let order = self.order_of(state, access);
         let same_lane = self.is(Rule::ByteSwapReadEnable) && order == Order::ByteSwapped
             || self.is(Rule::HalfSwapReadEnable) && order == Order::HalfSwapped;
         let mut shown = Bits::known(0);
         for number in 0..4 {
-            let to = self.lane_for(order, number);
+            let to = self.lane_in(order, access, number);
             let byte = match self.place(memory, access.offset, number) {
                 Some(place) => memory[place],
                 None => 0,
             };
-            if same_lane && access.enables >> number & 1 == 0 {
+            if to > 3 || same_lane && access.enables >> number & 1 == 0 {
                 continue;
             }
             shown.value |= u32::from(byte) << (8 * to);
+        }
+        if self.is(Rule::SwapReadPacked) && order != Order::Standard {
+            shown.value = packed(shown.value, access.enables);
         }
         if self.is(Rule::MemoryUnknown) {
             shown.known = shown.value;
@@ -1055,21 +1091,22 @@ impl Model {
     }
 
     fn aperture_write(&self, state: &State, memory: &mut [u8], access: &Access) {
-        let mut order = self.order(state, access.target);
-        if self.is(Rule::SwapWritePlain) {
-            order = Order::Standard;
-        }
+        let order = self.order_of(state, access);
         let same_lane = self.is(Rule::ByteSwapEnable) && order == Order::ByteSwapped
             || self.is(Rule::HalfSwapEnable) && order == Order::HalfSwapped;
+        let clears = self.is(Rule::SwapWriteClears) && order != Order::Standard;
         let mask = self.held(state, BYPASS_WRITE_MASK);
         for number in 0..4 {
-            let from = self.lane_for(order, number);
+            let from = self.lane_in(order, access, number);
             let deciding = if same_lane { number } else { from };
             let enabled = access.enables >> deciding & 1 == 1 || self.is(Rule::MemoryWriteAllLanes);
             let Some(place) = self.place(memory, access.offset, number) else {
                 continue;
             };
             if !enabled {
+                if clears {
+                    memory[place] = 0;
+                }
                 continue;
             }
             let byte = byte_of(access.word, from);
@@ -1081,4 +1118,17 @@ impl Model {
             }
         }
     }
+}
+
+/// The bytes of the enabled lanes, moved down to the lowest lanes.
+fn packed(word: u32, enables: u32) -> u32 {
+    let mut low = 0;
+    let mut to = 0;
+    for number in 0..4 {
+        if enables >> number & 1 == 1 {
+            low |= u32::from(byte_of(word, number)) << (8 * to);
+            to += 1;
+        }
+    }
+    low
 }

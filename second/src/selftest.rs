@@ -30,6 +30,8 @@ pub fn run(broken: Break, seed: u64, panels: u32, lines: usize) -> Vec<String> {
         ("palette stage", palette_stage),
         ("palette width", palette_width),
         ("apertures", apertures),
+        ("lanes written and read back", lanes_both_ways),
+        ("lanes swapped twice", lanes_twice),
         ("order of refusals", order_of_refusals),
         ("picture rules", picture_rules),
         ("picture places", picture_places),
@@ -850,6 +852,107 @@ fn apertures(tests: &mut Tests) {
             tests.equal(&what, b.read(target, 16, 0).0, 5);
             tests.equal(&what, b.read(target, 18, 0).0, 4);
             tests.equal(&what, b.read(3 - target, 8, 15).0, 0);
+            tests.done(b);
+        }
+    }
+}
+
+/// The lane of memory byte `number` as 01 writes it.
+fn ruled(code: u32, number: u32) -> u32 {
+    match code {
+        0 => number,
+        1 => 3 - number,
+        _ => (number + 2) % 4,
+    }
+}
+
+/// What a word shows of the four bytes at an offset.
+fn ruled_word(code: u32, memory: &[u8], offset: u32) -> u32 {
+    (0..4).fold(0, |word, number| {
+        let byte = u32::from(memory[(offset + number) as usize]);
+        word | byte << (8 * ruled(code, number))
+    })
+}
+
+/// An aperture in a swap code, the other one in another code. The bits of packed
+/// mode that are only stored are set as well.
+fn swapping(tests: &Tests, target: u32, code: u32) -> Bench {
+    let mut b = tests.bench(4, 1, 24);
+    b.memory = (0..24).map(|place| 0x51 + 5 * place).collect();
+    b.write(0, 0x48 + 8 * target, 15, code | 0x50);
+    b.write(0, 0x60 - 8 * target, 15, (code + 1) % 3);
+    b
+}
+
+/// 02, C-17: every write by every read through the same aperture in the same
+/// code, from the rule.
+fn lanes_both_ways(tests: &mut Tests) {
+    for target in [1, 2] {
+        for code in 0..3 {
+            for offset in [0, 4, 8, 20] {
+                for word in [0xd3c2_b1a0, 0x0000_0001, 0x80ff_7f00] {
+                    for written in 0..16 {
+                        one_write(tests, (target, code), offset, written, word);
+                    }
+                }
+            }
+        }
+    }
+}
+
+/// One write of `lanes_both_ways`, with all reads before and after it.
+fn one_write(tests: &mut Tests, through: (u32, u32), offset: u32, written: u32, word: u32) {
+    let (target, code) = through;
+    let mut b = swapping(tests, target, code);
+    let what = format!("aperture {target}, code {code}, {offset:x}h, written {written:x}");
+    let earlier = ruled_word(code, &b.memory, offset);
+    let mut stored = b.memory.clone();
+    for number in 0..4 {
+        let lane = ruled(code, number);
+        if written >> lane & 1 == 1 {
+            stored[(offset + number) as usize] = (word >> (8 * lane)) as u8;
+        }
+    }
+    let without: Vec<_> = (0..16)
+        .map(|enables| b.read(target, offset, enables))
+        .collect();
+    tests.equal(&what, b.write(target, offset, written, word), (0, 0));
+    tests.equal(&what, b.memory.clone(), stored);
+    for (enables, before) in (0..16).zip(without) {
+        let shown = covered(enables);
+        let what = format!("{what}, read {enables:x}");
+        tests.equal(&what, before, (0, earlier & shown, shown));
+        let both = shown & covered(written);
+        let expected = word & both | before.1 & !both;
+        tests.equal(&what, b.read(target, offset, enables), (0, expected, shown));
+    }
+    tests.done(b);
+}
+
+/// Each rule is its own inverse: what a swapped read shows, written as it is and
+/// read swapped again, is what memory held in standard order; so is what two
+/// swapped writes leave.
+fn lanes_twice(tests: &mut Tests) {
+    for code in 0..3 {
+        for number in 0..4 {
+            let twice = ruled(code, ruled(code, number));
+            tests.equal("the rule", twice, number);
+        }
+        for target in [1, 2] {
+            let mut b = swapping(tests, target, code);
+            b.write(0, 0x60 - 8 * target, 15, 0);
+            let plain = 3 - target;
+            let what = format!("aperture {target}, code {code}");
+            for offset in [0, 4, 8, 12] {
+                let held = b.read(plain, offset, 15);
+                let once = b.read(target, offset, 15).1;
+                b.write(plain, 20, 15, once);
+                tests.equal(&what, b.read(target, 20, 15), held);
+                b.write(target, 16, 15, held.1);
+                let once = b.read(plain, 16, 15).1;
+                b.write(target, 16, 15, once);
+                tests.equal(&what, b.read(plain, 16, 15), held);
+            }
             tests.done(b);
         }
     }

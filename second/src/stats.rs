@@ -4,7 +4,7 @@ use std::io::BufReader;
 
 use crate::bits::byte_of;
 use crate::breaks::{Break, Rule};
-use crate::model::{DONE, REGION_ZERO};
+use crate::model::{Access, Model, APERTURE_ONE, APERTURE_TWO, DONE, REGION_ZERO};
 use crate::offsets::PALETTE_DATA;
 use crate::state::{Stage, State};
 use crate::tables::MISC_CONTROL;
@@ -20,6 +20,7 @@ pub struct Stats {
     pub reads: usize,
     pub telling: usize,
     pub six: Six,
+    pub lanes: Lanes,
 }
 
 /// How often a trace touches what 02, C-13 says of six bits.
@@ -37,6 +38,37 @@ pub struct Six {
     pub other_counts: usize,
 }
 
+/// How often a trace touches the lanes of 02, C-17.
+pub struct Lanes {
+    model: Model,
+    /// One for each swap code that is served.
+    pub codes: [Code; 3],
+    /// The writes that were done, and for each byte of memory the number of the
+    /// last one that reached it.
+    writes: Vec<Written>,
+    last: Vec<Option<usize>>,
+}
+
+/// Accesses to apertures that were done in one swap code, and those of them with
+/// some lanes enabled and some not.
+#[derive(Clone, Copy, Default)]
+pub struct Code {
+    pub reads: usize,
+    pub partial_reads: usize,
+    pub writes: usize,
+    pub partial_writes: usize,
+    /// Reads of a lane that a write brought there by the same aperture, offset
+    /// and code; no byte of that write was overwritten since.
+    pub read_backs: usize,
+}
+
+/// A write to an aperture.
+struct Written {
+    target: u32,
+    code: usize,
+    enables: u32,
+}
+
 /// Runs a trace and counts.
 pub fn of(trace: &[u8], setup: Setup) -> Result<Stats, String> {
     let mut machine = Machine::open(Break::Nothing, setup, false)?;
@@ -49,6 +81,7 @@ pub fn of(trace: &[u8], setup: Setup) -> Result<Stats, String> {
         reads: 0,
         telling: 0,
         six: Six::default(),
+        lanes: Lanes::new(setup.memory_bytes),
     };
     let mut lines = Lines::new(Break::Nothing);
     let mut input = BufReader::new(trace);
@@ -76,6 +109,10 @@ pub fn of(trace: &[u8], setup: Setup) -> Result<Stats, String> {
             let byte = byte_of(access.word, 0);
             let six = &mut stats.six;
             six.count(byte, completed, machine.state(), earlier.state());
+        }
+        let memory = access.target == APERTURE_ONE || access.target == APERTURE_TWO;
+        if memory && answer.status == DONE {
+            stats.lanes.count(&access, machine.state());
         }
         if answer.word != answer_earlier.word {
             stats.six.other_words += 1;
@@ -111,6 +148,77 @@ impl Six {
     }
 }
 
+impl Lanes {
+    fn new(memory_bytes: u32) -> Lanes {
+        Lanes {
+            model: Model::sound(),
+            codes: [Code::default(); 3],
+            writes: Vec::new(),
+            last: vec![None; memory_bytes as usize],
+        }
+    }
+
+    /// Counts an access to an aperture that was done.
+    fn count(&mut self, access: &Access, state: &State) {
+        let order = self.model.order(state, access.target);
+        let places: Vec<usize> = (0..4)
+            .filter(|&number| access.enables >> self.model.lane_for(order, number) & 1 == 1)
+            .map(|number| (access.offset + number) as usize)
+            .collect();
+        let partial = usize::from(!places.is_empty() && places.len() < 4);
+        let code = order as usize;
+        let counts = &mut self.codes[code];
+        if access.write {
+            counts.writes += 1;
+            counts.partial_writes += partial;
+            for place in places {
+                self.last[place] = Some(self.writes.len());
+            }
+            self.writes.push(Written {
+                target: access.target,
+                code,
+                enables: access.enables,
+            });
+        } else {
+            counts.reads += 1;
+            counts.partial_reads += partial;
+            if places.iter().any(|&place| self.kept(place, access, code)) {
+                self.codes[code].read_backs += 1;
+            }
+        }
+    }
+
+    /// Whether the byte at a place is from a write by this access's aperture in
+    /// this code of which every byte is still there.
+    fn kept(&self, place: usize, access: &Access, code: usize) -> bool {
+        let Some(number) = self.last[place] else {
+            return false;
+        };
+        let write = &self.writes[number];
+        let first = access.offset as usize;
+        let left = self.last[first..first + 4]
+            .iter()
+            .filter(|last| **last == Some(number))
+            .count();
+        write.target == access.target
+            && write.code == code
+            && left == write.enables.count_ones() as usize
+    }
+
+    /// The counts as lines of text.
+    fn report(&self) -> String {
+        let done: usize = self.codes.iter().map(|code| code.reads + code.writes).sum();
+        let mut text = format!("aperture accesses done: {done}\n");
+        for (number, code) in self.codes.iter().enumerate() {
+            text += &format!(
+                "swap code {number}: {} writes, {} of some lanes; {} reads, {} of some lanes, {} read back\n",
+                code.writes, code.partial_writes, code.reads, code.partial_reads, code.read_backs
+            );
+        }
+        text
+    }
+}
+
 impl Stats {
     /// The counts as lines of text.
     pub fn report(&self) -> String {
@@ -142,6 +250,6 @@ impl Stats {
             six.other_words,
             six.other_counts
         );
-        text
+        text + &self.lanes.report()
     }
 }

@@ -1,2 +1,3 @@
+pub mod Arranged
 pub mod LaneLaws
 pub mod OneOutcome

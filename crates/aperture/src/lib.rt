@@ -7,7 +7,7 @@ ghost use mathlib.Core.Path.{_≡_};
 ghost use Prim.Native.Nat.{_+_, _*_};
 ghost use lib.ListN.{getD};
 ghost use Rattle.chip.specs.Units.{atByte};
-ghost use Rattle.chip.specs.Aperture.{served, laneOf, byteFrom, span, reachesMemory, wordFrom};
+ghost use Rattle.chip.specs.Aperture.{swapOf, served, laneOf, byteFrom, span, reachesMemory, readLane, wordFrom};
 
 // Whether the aperture's mode is served: no reserved swap code, no packed 16-bit mode, no SVGA and no ROM access.
 pub fn mode_served(control: u32) -> bool
@@ -25,12 +25,11 @@ pub fn mode_served(control: u32) -> bool
     !bit_of(9, control)
 }
 
-// The lane that memory byte o + i exchanges with, and the byte of lane i: the rule is its own inverse. Past 3 there is none: what it gives there is what
-// the definition gives.
-pub fn lane_of(control: u32, i: u32) -> u32
-    ensures { λ r. ⌜ r ≡ laneOf control i ⌝ }
+// The lane that memory byte o + i exchanges with, by the swap code (01, Apertures): i, 3 − i byte swapped, (i + 2) mod 4 half-word swapped. It is also the byte
+// of lane i: the rule is its own inverse. Past 3 there is none: what it gives there is what the definition gives.
+pub fn lane_of(swap: u32, i: u32) -> u32
+    ensures { λ r. ⌜ r ≡ laneOf swap i ⌝ }
 {
-    let swap = control % 4;
     if swap == 1 {
         if 3 < i {
             return 0;
@@ -43,11 +42,11 @@ pub fn lane_of(control: u32, i: u32) -> u32
     i
 }
 
-// The memory byte that lane j of an access at offset o exchanges with.
+// The memory byte that lane j of an access at offset o exchanges with: a read and a write both ask here.
 pub fn lane_place(control: u32, o: u32, j: u32) -> Bytes
-    ensures { λ r. ⌜ r ≡ byteFrom (atByte o) (laneOf control j) ⌝ }
+    ensures { λ r. ⌜ r ≡ byteFrom (atByte o) (laneOf (swapOf control) j) ⌝ }
 {
-    at_byte(o).along(lane_of(control, j) as usize)
+    at_byte(o).along(lane_of(control % 4, j) as usize)
 }
 
 // Whether the bytes that an access at offset o reaches are fitted.
@@ -68,6 +67,13 @@ pub fn byte_at(memory: &[u8], k: Bytes) -> u8
     memory[at]
 }
 
+// What a read gives in lane j: the byte that the lane exchanges with.
+fn read_lane(control: u32, memory: &[u8], o: u32, j: u32) -> u8
+    ensures { λ r. ⌜ r ≡ readLane control (now (memory .entry)) (atByte o) j ⌝ }
+{
+    byte_at(memory, lane_place(control, o, j))
+}
+
 fn wide(b: u8) -> u32
     ensures { λ r. ⌜ r ≡ b ⌝ }
 {
@@ -81,21 +87,13 @@ fn four_lanes(a: u8, b: u8, c: u8, d: u8) -> u32
     wide(a) + wide(b) * 256 + wide(c) * 65536 + wide(d) * 16777216
 }
 
-// The word that a read gives: byte o + i in its lane.
+// The word that a read gives: each lane's byte in its lane.
 pub fn word_from(control: u32, memory: &[u8], o: u32) -> u32
     ensures { λ r. ⌜ r ≡ wordFrom control (now (memory .entry)) (atByte o) ⌝ }
 {
-    let k = at_byte(o);
-    let a = byte_at(memory, k);
-    let b = byte_at(memory, k.along(1));
-    let c = byte_at(memory, k.along(2));
-    let d = byte_at(memory, k.along(3));
-    let swap = control % 4;
-    if swap == 1 {
-        return four_lanes(d, c, b, a);
-    }
-    if swap == 2 {
-        return four_lanes(c, d, a, b);
-    }
+    let a = read_lane(control, memory, o, 0);
+    let b = read_lane(control, memory, o, 1);
+    let c = read_lane(control, memory, o, 2);
+    let d = read_lane(control, memory, o, 3);
     four_lanes(a, b, c, d)
 }

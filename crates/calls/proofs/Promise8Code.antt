@@ -8,6 +8,7 @@ use mathlib.Core.Option.{some}
 use mathlib.Core.Path.{_≡_, sym, ap, _∙_, subst}
 use lib.ListN.{getD, length, replicate}
 use Rattle.bits.specs.Bit.{bit}
+use Rattle.bits.specs.Word.{inside, lanesOf}
 use Rattle.chip.specs.declared.Access.{Access}
 use Rattle.chip.specs.declared.Answer.{Answer}
 use Rattle.chip.specs.declared.Opened.{Opened}
@@ -29,6 +30,7 @@ use Rattle.promises.specs.Origin.{BitStored, BitStated, ByteStored, ByteLent}
 use Rattle.promises.specs.Loads.{Loaded, ReadsPart, written, writtenIn}
 use Rattle.promises.specs.Width.{eightBits}
 use Rattle.promises.specs.Told.{Told, ShownBy}
+use Rattle.promises.specs.Lanes.{WritesWindow, ReadsThere}
 use Rattle.promises.specs.Dots.{Ruled, dotsChanged}
 use Rattle.promises.specs.View.{SameWindow, command, ButRow}
 use Rattle.promises.proofs.Promise1Refusals.{access-status, access-refused, access-done, status-among, refused-alters-nothing, opening-refused, refused-opening}
@@ -37,6 +39,7 @@ use Rattle.promises.proofs.Promise3Only.{bits-move, bits-stay, without-lane-0, 
 use Rattle.promises.proofs.Promise4Origins.{bit-exactly, byte-exactly, entry-exactly}
 use Rattle.promises.proofs.Promise4Known.{known-exactly}
 use Rattle.promises.proofs.Promise4Widths.{six-bits-back}
+use Rattle.promises.proofs.Promise4Lanes.{written-back}
 use Rattle.promises.proofs.Promise5Picture.{picture-right, count-right, lengths-stay, dot-ruled}
 use Rattle.promises.proofs.Promise6Altered.{other-dots-stay, differing-dots-change}
 use Rattle.promises.proofs.Promise7Depends.{aperture-depends, command-gates-nothing, command-alters-nothing}
@@ -130,6 +133,16 @@ call-aperture x x′ a r r′ y y′ c d i g h e v =
     (of-call x′ a r′ y′ d
     (λ (q : Answer) (w : World). (q .status ≡ step x a .answer .status) × (q .word ≡ step x a .answer .word) × (q .known ≡ step x a .answer .known) × (w .memory ≡ after x a .memory))
     (z .status, z .word, z .known, z .memory))
+
+-- 02, C-17: the word that a call writes through an aperture, a call after it that reads there with the same enables gives back
+pub call-written-back : (x : World) (a b : Access) (r s : Answer) (y z : World) → Called x a r y → Called y b s z → (i : ℕ) → Good x → WritesWindow x a i → ReadsThere a b
+    → b .enables ≡ a .enables → (s .status ≡ 0) × (s .word ≡ inside (a .word) (lanesOf (a .enables))) × (s .known ≡ lanesOf (a .enables))
+call-written-back x a b r s y z c d i g w f e =
+    of-call y b s z d (λ (q : Answer) (v : World). (q .status ≡ 0) × (q .word ≡ inside (a .word) (lanesOf (a .enables))) × (q .known ≡ lanesOf (a .enables)))
+    (of-call x a r y c
+    (λ (q : Answer) (v : World).
+    (step v b .answer .status ≡ 0) × (step v b .answer .word ≡ inside (a .word) (lanesOf (a .enables))) × (step v b .answer .known ≡ lanesOf (a .enables)))
+    (written-back x a b i g w f e))
 
 -- the command register gates no call, and one that does not lead to it answers alike and leaves the same memory
 pub call-command : (x x′ : World) (a : Access) (r r′ : Answer) (y y′ : World) → Called x a r y → Called x′ a r′ y′ → Good x → Good x′ → ButRow x x′ command

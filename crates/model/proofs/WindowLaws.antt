@@ -17,7 +17,7 @@ use Rattle.bits.proofs.Cases.{byTest, pick-by}
 use Rattle.chip.specs.declared.State.{State}
 use Rattle.chip.specs.declared.Access.{Access}
 use Rattle.chip.specs.declared.Answer.{Answer}
-use Rattle.chip.specs.Aperture.{Put, laneOf, reach, putLane, putsOf, putAll}
+use Rattle.chip.specs.Aperture.{Put, swapOf, laneOf, reach, putLane, putsOf, putAll}
 use Rattle.chip.specs.Units.{atByte}
 use Rattle.chip.specs.View.{viewOf}
 use Rattle.chip.specs.Picture.{dotByte, beyond, dotEntry, underByte, underAt, laidAt, wordAt, viewWord, wordOf, chosen, redrawn, diffs}
@@ -126,8 +126,8 @@ word-by s m n j e h = simp (e, h)
 -- no two lanes have one byte
 lanes-apart : (control : ℕ) (a : Access) (i k : ℕ) → i < k → k < 4 → placeIn control a k ≡ placeIn control a i → ⊥
 lanes-apart control a i k h l e =
-    let z : laneOf control k ≡ laneOf control i = omega arith in
-    let y : k ≡ i = sym (lane-back control k l) ∙ ap (laneOf control) z ∙ lane-back control i (omega arith) in
+    let z : laneOf (swapOf control) k ≡ laneOf (swapOf control) i = omega arith in
+    let y : k ≡ i = sym (lane-back (swapOf control) k l) ∙ ap (laneOf (swapOf control)) z ∙ lane-back (swapOf control) i (omega arith) in
     omega arith
 
 -- the lanes below i are stored

@@ -10,13 +10,13 @@ use Rattle.bits.specs.Word.{laneByte}
 use Rattle.chip.specs.declared.State.{State}
 use Rattle.chip.specs.declared.Access.{Access}
 use Rattle.chip.specs.Units.{atByte}
-use Rattle.chip.specs.Aperture.{laneOf, byteFrom, putsOf, putAll}
+use Rattle.chip.specs.Aperture.{swapOf, laneOf, byteFrom, putsOf, putAll}
 use Rattle.chip.specs.Picture.{wordOf}
 use Rattle.picture.specs.Draw.{Redraws}
 
 -- the byte of lane j
 abbrev pub placeIn : ℕ → Access → ℕ → ℕ
-placeIn control a j = byteFrom (atByte (a .offset)) (laneOf control j) .0
+placeIn control a j = byteFrom (atByte (a .offset)) (laneOf (swapOf control) j) .0
 
 -- memory after lane j: its byte takes the lane's where the lane is enabled
 unfoldable pub laneIn : ℕ → Access → ℕ → List ℕ → List ℕ

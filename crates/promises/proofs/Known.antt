@@ -12,7 +12,7 @@ use lib.Dec.{eqb, ltb}
 use lib.ListN.{getD, length}
 use Rattle.bits.specs.Choose.{pick, everyTo}
 use Rattle.bits.specs.Bit.{bit}
-use Rattle.bits.proofs.Cases.{byTest, pick-by}
+use Rattle.bits.proofs.Cases.{byTest}
 use Rattle.bits.proofs.Bools.{clash, every-at}
 use Rattle.bits.proofs.Words.{beq-true}
 use Rattle.bits.proofs.Single.{bit-of-zero}
@@ -40,6 +40,7 @@ use Rattle.chip.proofs.Refusals.{is-read, read-is}
 use Rattle.promises.proofs.Passed.{found-test}
 use Rattle.promises.proofs.Worlds.{good-along, opened-good, opens, memory-along}
 use Rattle.promises.proofs.Shown.{found, shows-register, shows-blank, shows-address, shows-palette, shows-memory}
+use Rattle.promises.proofs.Pokes.{at-lt}
 use Rattle.promises.proofs.Address.{set-or-not, never-set, set-at}
 use Rattle.promises.proofs.Promise1Refusals.{access-status, refused-alters-nothing}
 use Rattle.promises.proofs.Promise3Only.{writes-answer-zero}
@@ -71,13 +72,6 @@ byte-bits-all = refl
 pub in-byte : (b : ℕ) → b < 32 → bit b 0xFF ≡ ltb b 8
 unfolding byte-bits
 in-byte b h = beq-true _ _ (every-at byte-bits 32 b byte-bits-all h)
-
--- a lane exchanges with one of four bytes
-lane-lt : (c i : ℕ) → i < 4 → laneAt c i < 4
-unfolding laneAt
-lane-lt c i h =
-    pick-by (λ (n : ℕ). n < 4) (eqb (c % 4) 1) (3 - i) _ (omega arith)
-    (pick-by (λ (n : ℕ). n < 4) (eqb (c % 4) 2) ((i + 2) % 4) i (omega arith) h)
 
 -- what answers 0 and 0 shows nothing
 shows-nothing : (r : Answer) (b : ℕ) → r .known ≡ 0 → shows r b ≡ none
@@ -174,7 +168,7 @@ module _ (w h : ℕ) (m p : List ℕ) (o : Openable w h m p) (l : List Access) (
         let f = found-test (x .state) a .0 (ap not (found (x .state) _ _ a (q .done))) in
         let z = f .fitted i (sym (leads-place (x .state) a (f .place) (f .leads)) ∙ e) in
         let n : length (x .memory) ≡ length m = memory-along (opened w h m p) l ∙ ap length (opens w h m p (o .accepted) .memory) in
-        let k = lane-lt (getD (x .state .values) i 0) (b / 8) (omega arith) in
+        let k = at-lt (getD (x .state .values) i 0) (b / 8) (omega arith) in
         omega (arith, good .memory)
 
     memory-told : (i : ℕ) → placeOf (x .state) a ≡ Window i → some (bit (b % 8) (getD (x .memory) (byte i) 0)) ≡ some v → Told (opened w h m p) l a b v

@@ -39,8 +39,11 @@ pub mod Promise4Origins
 pub mod Promise4Reads
 pub mod Known
 pub mod Promise4Known
+pub mod ShownWord
 pub mod ReadBack
 pub mod Promise4Widths
+pub mod WrittenBack
+pub mod Promise4Lanes
 pub mod Promise5Picture
 pub mod Promise6Altered
 pub mod Promise7Depends

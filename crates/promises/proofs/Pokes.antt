@@ -4,9 +4,9 @@ use Prim.Native.Nat.{ℕ, _+_, _-_, _%_, _<_, _≤_}
 use mathlib.Core.Bool.{Bool, true, _&&_, Bool·beq}
 use mathlib.Core.List.{List, []}
 use mathlib.Core.Option.{Option, none, some}
-use mathlib.Core.Path.{_≡_, refl, sym, ap, _∙_}
+use mathlib.Core.Path.{_≡_, refl, sym, ap, ap₂, _∙_}
 use native.Mathlib.Omega.{arith}
-use borrow.Author.Tests.{eq-eqb, ne-eqb, eqb-true, eqb-false, leb-true, leb-false, ltb-true, ltb-false}
+use borrow.Author.Tests.{eq-eqb, ne-eqb, eqb-true, eqb-false, le-leb, lt-ltb, leb-true, leb-false, ltb-true, ltb-false}
 use lib.Dec.{eqb, leb, ltb}
 use lib.ListN.{getD}
 use Rattle.bits.specs.Choose.{pick, everyTo}
@@ -19,6 +19,7 @@ use Rattle.bits.proofs.Lanes.{by-lane}
 use Rattle.chip.specs.declared.Access.{Access}
 use Rattle.chip.specs.Units.{atByte}
 use Rattle.chip.specs.Aperture.{Put, swapOf, laneOf, reach, readLane, putLane, putsOf}
+use Rattle.chip.proofs.Lent.{lane-back}
 use Rattle.promises.specs.Along.{laterOf}
 use Rattle.promises.specs.Frame.{laneAt, lanePut}
 use Rattle.promises.proofs.Patches.{lastPoke}
@@ -27,14 +28,14 @@ use Rattle.promises.proofs.Patches.{lastPoke}
 
 -- by the swap code: the byte of lane j is i exactly where the lane of byte i is j, and a lane is below 4
 codes-agree : ℕ → ℕ → ℕ → Bool
-codes-agree n j i = Bool·beq (eqb (laneOf n j) i) (eqb j (laneAt n i)) && (ltb (laneOf n j) 4 && ltb (laneAt n i) 4)
+codes-agree n j i = Bool·beq (eqb (laneOf (swapOf n) j) i) (eqb j (laneAt n i)) && (ltb (laneOf (swapOf n) j) 4 && ltb (laneAt n i) 4)
 
 codes-all : everyTo (λ n. everyTo (λ j. everyTo (codes-agree n j) 4) 4) 4 ≡ true
 unfolding codes-agree laneOf swapOf laneAt
 codes-all = refl
 
 -- only the code counts
-lane-code : (c j : ℕ) → laneOf c j ≡ laneOf (c % 4) j
+lane-code : (c j : ℕ) → laneOf (swapOf c) j ≡ laneOf (swapOf (c % 4)) j
 unfolding laneOf swapOf
 lane-code c j = let e : c % 4 % 4 ≡ c % 4 = omega arith in simp e
 
@@ -42,21 +43,30 @@ at-code : (c i : ℕ) → laneAt c i ≡ laneAt (c % 4) i
 unfolding laneAt
 at-code c i = let e : c % 4 % 4 ≡ c % 4 = omega arith in simp e
 
+-- the rule is its own inverse
+pub at-back : (c j : ℕ) → j < 4 → laneAt c (laneAt c j) ≡ j
+unfolding laneOf swapOf laneAt
+at-back c = lane-back (c % 4)
+
 record Codes (c j i : ℕ) : Type 0 where
-  agree : eqb (laneOf c j) i ≡ eqb j (laneAt c i)
-  lane : laneOf c j < 4
+  agree : eqb (laneOf (swapOf c) j) i ≡ eqb j (laneAt c i)
+  lane : laneOf (swapOf c) j < 4
   byte : laneAt c i < 4
 
 codes : (c j i : ℕ) → j < 4 → i < 4 → Codes c j i
 unfolding codes-agree
 codes c j i hj hi =
     let t = every-at (codes-agree (c % 4) j) 4 i (every-at (λ j. everyTo (codes-agree (c % 4) j) 4) 4 j (every-at (λ n. everyTo (λ j. everyTo (codes-agree n j) 4) 4) 4 (c % 4) codes-all (omega arith)) hj) hi in
-    let u = and-second (Bool·beq (eqb (laneOf (c % 4) j) i) (eqb j (laneAt (c % 4) i))) _ t in
+    let u = and-second (Bool·beq (eqb (laneOf (swapOf (c % 4)) j) i) (eqb j (laneAt (c % 4) i))) _ t in
     record {
-      agree = rw (lane-code c j, at-code c i) (beq-true _ _ (and-first (Bool·beq (eqb (laneOf (c % 4) j) i) (eqb j (laneAt (c % 4) i))) _ t));
-      lane = rw (lane-code c j) (ltb-true _ 4 (and-first (ltb (laneOf (c % 4) j) 4) _ u));
-      byte = rw (at-code c i) (ltb-true _ 4 (and-second (ltb (laneOf (c % 4) j) 4) _ u));
+      agree = rw (lane-code c j, at-code c i) (beq-true _ _ (and-first (Bool·beq (eqb (laneOf (swapOf (c % 4)) j) i) (eqb j (laneAt (c % 4) i))) _ t));
+      lane = rw (lane-code c j) (ltb-true _ 4 (and-first (ltb (laneOf (swapOf (c % 4)) j) 4) _ u));
+      byte = rw (at-code c i) (ltb-true _ 4 (and-second (ltb (laneOf (swapOf (c % 4)) j) 4) _ u));
     }
+
+-- a lane exchanges with one of four bytes
+pub at-lt : (c i : ℕ) → i < 4 → laneAt c i < 4
+at-lt c i h = codes c 0 i (omega arith) h .byte
 
 -- ---- a write
 
@@ -82,7 +92,7 @@ eqb-since o n k h =
 module _ (c : ℕ) (a : Access) (k : ℕ) where
   -- what lane j puts there
   one : ℕ → Option ℕ
-  one j = pick (bit j (a .enables) && eqb (a .offset + laneOf c j) k) (some (laneByte j (a .word))) none
+  one j = pick (bit j (a .enables) && eqb (a .offset + laneOf (swapOf c) j) k) (some (laneByte j (a .word))) none
 
   poke-lane : (j : ℕ) (l : List Put) → lastPoke k (putLane c (atByte (a .offset)) (a .enables) (a .word) j l) ≡ laterOf (lastPoke k l) (one j)
   unfolding putLane one reach
@@ -96,9 +106,9 @@ module _ (c : ℕ) (a : Access) (k : ℕ) where
       (poke-lane 1 _ ∙ ap (λ (p : Option ℕ). laterOf p (one 1)) (poke-lane 2 _ ∙ ap (λ (p : Option ℕ). laterOf p (one 2)) (poke-lane 3 [])))
 
   -- a byte that is none of the four
-  one-none : (j : ℕ) → (a .offset + laneOf c j ≡ k → ⊥) → one j ≡ none
+  one-none : (j : ℕ) → (a .offset + laneOf (swapOf c) j ≡ k → ⊥) → one j ≡ none
   unfolding one
-  one-none j d = simp (ne-eqb (a .offset + laneOf c j) k d, and-false)
+  one-none j d = simp (ne-eqb (a .offset + laneOf (swapOf c) j) k d, and-false)
 
   poke-none : ((n : ℕ) → n < 4 → a .offset + n ≡ k → ⊥) → lastPoke k (putsOf c (atByte (a .offset)) (a .enables) (a .word)) ≡ none
   poke-none d =
@@ -118,8 +128,8 @@ module _ (c : ℕ) (a : Access) (k : ℕ) where
     one-its : (j : ℕ) → j < 4 → one j ≡ pick (eqb j (laneAt c (k - a .offset))) its none
     unfolding one its
     one-its j hj =
-        let e : eqb (a .offset + laneOf c j) k ≡ eqb j (laneAt c (k - a .offset)) =
-        eqb-since (a .offset) (laneOf c j) k h ∙ codes c j (k - a .offset) hj (omega arith) .agree in
+        let e : eqb (a .offset + laneOf (swapOf c) j) k ≡ eqb j (laneAt c (k - a .offset)) =
+        eqb-since (a .offset) (laneOf (swapOf c) j) k h ∙ codes c j (k - a .offset) hj (omega arith) .agree in
         byTest (eqb j (laneAt c (k - a .offset)))
         (λ t. let d : j ≡ laneAt c (k - a .offset) = eqb-true j _ t in
         simp (e, t, and-true) (ap (λ (n : ℕ). pick (bit n (a .enables)) (some (laneByte n (a .word))) none) d))
@@ -140,6 +150,19 @@ module _ (c : ℕ) (a : Access) (k : ℕ) where
       (λ u. simp (t, u) (poke-its (leb-true _ k t) (ltb-true k _ u)))
       (λ u. simp (t, u) (poke-none (λ n hn e. let b = ltb-false k _ u in omega arith))))
       (λ t. simp t (poke-none (λ n hn e. let b = leb-false _ k t in omega arith)))
+
+-- .. so with an offset and a swap code, in the byte that lane j exchanges with by that code
+put-here : (c : ℕ) (a : Access) (n j : ℕ) → n < 4 → laneAt c n ≡ j → lanePut c a (a .offset + n) ≡ pick (bit j (a .enables)) (some (laneByte j (a .word))) none
+unfolding lanePut
+put-here c a n j h e =
+    let s : a .offset + n - a .offset ≡ n = omega arith in
+    simp (le-leb (a .offset) (a .offset + n) (omega arith), lt-ltb (a .offset + n) (a .offset + 4) (omega arith), s, e)
+
+pub lane-put : (c d : ℕ) (a : Access) (o j : ℕ) → j < 4 → a .offset ≡ o → c % 4 ≡ d % 4
+    → lanePut c a (o + laneAt d j) ≡ pick (bit j (a .enables)) (some (laneByte j (a .word))) none
+lane-put c d a o j h p q =
+    let e : laneAt c j ≡ laneAt d j = at-code c j ∙ ap (λ (n : ℕ). laneAt n j) q ∙ sym (at-code d j) in
+    ap₂ (λ (k n : ℕ). lanePut c a (k + n)) (sym p) (sym e) ∙ put-here c a (laneAt c j) j (at-lt c j h) (at-back c j h)
 
 -- ---- a read
 

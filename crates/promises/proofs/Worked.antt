@@ -17,9 +17,9 @@ use Rattle.chip.specs.Step.{Outcome, stepOf, sureOf}
 use Rattle.chip.specs.Trace.{World, after, run}
 use Rattle.chip.specs.Case.{Case, start, lentOr, meets, agrees, holds, sureStep, sureRun, fits, surely}
 use Rattle.chip.specs.Values.{values}
-use Rattle.chip.specs.Readings.{misread, palettes, widths, refusals, words, pictures}
+use Rattle.chip.specs.Readings.{misread, palettes, widths, refusals, words, lanes, pictures}
 use Rattle.chip.proofs.Computed.{computed}
-use Rattle.chip.proofs.Values.{values-computed, misread-computed, palettes-computed, widths-computed, refusals-computed, words-computed, pictures-computed}
+use Rattle.chip.proofs.Values.{values-computed, misread-computed, palettes-computed, widths-computed, refusals-computed, words-computed, lanes-computed, pictures-computed}
 use Rattle.promises.specs.Good.{Good, Openable}
 use Rattle.promises.proofs.Promise1Refusals.{opening-status}
 use Rattle.promises.proofs.Worlds.{good-kept, good-along, opened-good}
@@ -97,6 +97,10 @@ refusals-hold = all-hold refusals refl refusals-computed
 pub words-hold : everyIn holds words ≡ true
 unfolding computed words
 words-hold = all-hold words refl words-computed
+
+pub lanes-hold : everyIn holds lanes ≡ true
+unfolding computed lanes
+lanes-hold = all-hold lanes refl lanes-computed
 
 pub pictures-hold : everyIn holds pictures ≡ true
 unfolding computed pictures

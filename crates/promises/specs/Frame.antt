@@ -113,7 +113,7 @@ madeColour s a = record { red = s .dac .red; green = s .dac .green; blue = store
 -- ---- a memory byte
 
 -- the lane that memory byte o + i exchanges with, by the swap code in bits 0 and 1 of the aperture's control register: i, 3 − i where it is 1, (i + 2) mod 4 where
--- it is 2. The rule is its own inverse: lane j exchanges with byte o + laneAt j
+-- it is 2, for i from 0 to 3. The rule is its own inverse there: lane j exchanges with byte o + laneAt j
 unfoldable pub laneAt : ℕ → ℕ → ℕ
 laneAt control i = pick (eqb (control % 4) 1) (3 - i) (pick (eqb (control % 4) 2) ((i + 2) % 4) i)
 

@@ -12,4 +12,5 @@ pub mod Loads
 pub mod Origin
 pub mod Places
 pub mod Told
+pub mod Lanes
 pub mod Refusals

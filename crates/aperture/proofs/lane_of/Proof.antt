@@ -11,10 +11,10 @@ returns : tie.Need-returns
 returns c =
     let a = c .before .before .args in
     let e : 0 ≡ 3 - a .i = omega arith in
-    e ∙ sym (turned (a .control) (a .i) (c .before .if1 .taken))
+    e ∙ sym (turned (a .swap) (a .i) (c .before .if1 .taken))
 
 returns-2 : tie.Need-returns-2
-returns-2 c = sym (turned (c .before .before .args .control) _ (c .before .if1 .taken))
+returns-2 c = sym (turned (c .before .before .args .swap) _ (c .before .if1 .taken))
 
 add-result : tie.Need-add-result
 add-result c = search needs
@@ -23,10 +23,10 @@ returns-3 : tie.Need-returns-3
 returns-3 c =
     let a = c .before .before .args in
     let e : (a .i % 4 + 2) % 4 ≡ (a .i + 2) % 4 = omega arith in
-    e ∙ sym (crossed (a .control) (a .i) (c .if3 .taken))
+    e ∙ sym (crossed (a .swap) (a .i) (c .if3 .taken))
 
 returns-4 : tie.Need-returns-4
-returns-4 c = sym (straight (c .before .before .args .control) _ (c .before .if1 .left) (c .if3 .left))
+returns-4 c = sym (straight (c .before .before .args .swap) _ (c .before .if1 .left) (c .if3 .left))
 
 pub lane-of-spec : {M : Type 1} → statement M
 lane-of-spec = tie.close (tie.spec returns returns-2 add-result returns-3 returns-4)

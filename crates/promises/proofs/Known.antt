@@ -1,6 +1,6 @@
 -- What a read shows as known after an opening and any list of accesses is exactly what it was told.
 -- Place by place, from what a read shows there (Shown) and what is held there (Promise4Origins). Assumes nothing.
-use Prim.Native.Nat.{ℕ, _+_, _-_, _/_, _%_, _<_}
+use Prim.Native.Nat.{ℕ, _+_, _/_, _%_, _<_}
 use mathlib.Core.Bool.{Bool, true, false, not, Bool·beq}
 use mathlib.Core.List.{List}
 use mathlib.Core.Logic.{_↔_, _⊎_, inl, inr}

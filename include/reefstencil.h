@@ -48,8 +48,8 @@ enum pm_status {
 
 /* ---- an access ---- */
 
-/* Through an aperture memory byte offset + i, i from 0 to 3, is exchanged with lane i of the word; with lane 3 - i where bits 0 and 1 of its register are 1 (byte swapped),
-   and with lane (i + 2) % 4 where they are 2 (half-word swapped). That lane's enable decides, in a read as in a write. */
+/* Through an aperture, memory byte offset + i (i from 0 to 3) is exchanged with lane i of the word. If bits 0 and 1 of the aperture's register hold the number 1 (byte
+ * swapped) it is lane 3 - i, if they hold 2 (half-word swapped) lane (i + 2) % 4. That lane's enable decides, in a read as in a write. */
 enum pm_target {
     PM_REGION_0 = 0,     /* the registers */
     PM_APERTURE_ONE = 1, /* memory, in the mode of register 50h */

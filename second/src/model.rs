@@ -1039,7 +1039,8 @@ impl Model {
     }
 
     /// The same for an access; reads and writes both ask here. Only breaks look at
-    /// more than the order. One of them gives lanes above 3, which move nothing.
+    /// more than the order. One break of `lane_for` gives lanes above 3: they move
+    /// nothing.
     fn lane_in(&self, order: Order, access: &Access, number: u32) -> u32 {
         let swapped = order != Order::Standard;
         if self.is(Rule::LaneByWord) || self.is(Rule::SwapLaneByWord) && swapped {

@@ -874,7 +874,7 @@ fn ruled_word(code: u32, memory: &[u8], offset: u32) -> u32 {
     })
 }
 
-/// An aperture in a swap code, the other one in another code. The bits of packed
+/// An aperture in a swap code, the other one in another code. Two bits of packed
 /// mode that are only stored are set as well.
 fn swapping(tests: &Tests, target: u32, code: u32) -> Bench {
     let mut b = tests.bench(4, 1, 24);
@@ -884,8 +884,8 @@ fn swapping(tests: &Tests, target: u32, code: u32) -> Bench {
     b
 }
 
-/// 02, C-17: every write by every read through the same aperture in the same
-/// code, from the rule.
+/// 02, C-17: all enables of a write by all enables of a read, through the same
+/// aperture in the same code, at a few offsets with a few words, from the rule.
 fn lanes_both_ways(tests: &mut Tests) {
     for target in [1, 2] {
         for code in 0..3 {

@@ -134,7 +134,7 @@ call-aperture x x′ a r r′ y y′ c d i g h e v =
     (λ (q : Answer) (w : World). (q .status ≡ step x a .answer .status) × (q .word ≡ step x a .answer .word) × (q .known ≡ step x a .answer .known) × (w .memory ≡ after x a .memory))
     (z .status, z .word, z .known, z .memory))
 
--- 02, C-17: the word that a call writes through an aperture, a call after it that reads there with the same enables gives back
+-- 02, C-17: the word that a call writes through an aperture, the next call, if it reads there with the same enables, gives back
 pub call-written-back : (x : World) (a b : Access) (r s : Answer) (y z : World) → Called x a r y → Called y b s z → (i : ℕ) → Good x → WritesWindow x a i → ReadsThere a b
     → b .enables ≡ a .enables → (s .status ≡ 0) × (s .word ≡ inside (a .word) (lanesOf (a .enables))) × (s .known ≡ lanesOf (a .enables))
 call-written-back x a b r s y z c d i g w f e =

@@ -1,7 +1,7 @@
 -- What an aperture write stores in a byte is its lane's byte, where the lane is enabled; and what a read gives in a lane is its byte.
--- The lanes' rule and its inverse agree, by one computed test over the swap codes; the four lanes one by one. Assumes nothing.
+-- The lanes' rule is its own inverse; the four lanes one by one. Assumes nothing.
 use Prim.Native.Nat.{ℕ, _+_, _-_, _%_, _<_, _≤_}
-use mathlib.Core.Bool.{Bool, true, _&&_, Bool·beq}
+use mathlib.Core.Bool.{_&&_}
 use mathlib.Core.List.{List, []}
 use mathlib.Core.Option.{Option, none, some}
 use mathlib.Core.Path.{_≡_, refl, sym, ap, ap₂, _∙_}
@@ -9,12 +9,11 @@ use native.Mathlib.Omega.{arith}
 use borrow.Author.Tests.{eq-eqb, ne-eqb, eqb-true, eqb-false, le-leb, lt-ltb, leb-true, leb-false, ltb-true, ltb-false}
 use lib.Dec.{eqb, leb, ltb}
 use lib.ListN.{getD}
-use Rattle.bits.specs.Choose.{pick, everyTo}
+use Rattle.bits.specs.Choose.{pick}
 use Rattle.bits.specs.Bit.{bit}
 use Rattle.bits.specs.Word.{laneByte}
-use Rattle.bits.proofs.Cases.{byTest}
-use Rattle.bits.proofs.Bools.{and-first, and-second, and-false, and-true, every-at}
-use Rattle.bits.proofs.Words.{beq-true}
+use Rattle.bits.proofs.Cases.{byTest, pick-by}
+use Rattle.bits.proofs.Bools.{and-false, and-true}
 use Rattle.bits.proofs.Lanes.{by-lane}
 use Rattle.chip.specs.declared.Access.{Access}
 use Rattle.chip.specs.Units.{atByte}
@@ -26,47 +25,28 @@ use Rattle.promises.proofs.Patches.{lastPoke}
 
 -- ---- the lanes
 
--- by the swap code: the byte of lane j is i exactly where the lane of byte i is j, and a lane is below 4
-codes-agree : ℕ → ℕ → ℕ → Bool
-codes-agree n j i = Bool·beq (eqb (laneOf (swapOf n) j) i) (eqb j (laneAt n i)) && (ltb (laneOf (swapOf n) j) 4 && ltb (laneAt n i) 4)
-
-codes-all : everyTo (λ n. everyTo (λ j. everyTo (codes-agree n j) 4) 4) 4 ≡ true
-unfolding codes-agree laneOf swapOf laneAt
-codes-all = refl
-
--- only the code counts
-lane-code : (c j : ℕ) → laneOf (swapOf c) j ≡ laneOf (swapOf (c % 4)) j
-unfolding laneOf swapOf
-lane-code c j = let e : c % 4 % 4 ≡ c % 4 = omega arith in simp e
-
+-- only the swap code counts
 at-code : (c i : ℕ) → laneAt c i ≡ laneAt (c % 4) i
 unfolding laneAt
 at-code c i = let e : c % 4 % 4 ≡ c % 4 = omega arith in simp e
 
--- the rule is its own inverse
-pub at-back : (c j : ℕ) → j < 4 → laneAt c (laneAt c j) ≡ j
-unfolding laneOf swapOf laneAt
-at-back c = lane-back (c % 4)
-
-record Codes (c j i : ℕ) : Type 0 where
-  agree : eqb (laneOf (swapOf c) j) i ≡ eqb j (laneAt c i)
-  lane : laneOf (swapOf c) j < 4
-  byte : laneAt c i < 4
-
-codes : (c j i : ℕ) → j < 4 → i < 4 → Codes c j i
-unfolding codes-agree
-codes c j i hj hi =
-    let t = every-at (codes-agree (c % 4) j) 4 i (every-at (λ j. everyTo (codes-agree (c % 4) j) 4) 4 j (every-at (λ n. everyTo (λ j. everyTo (codes-agree n j) 4) 4) 4 (c % 4) codes-all (omega arith)) hj) hi in
-    let u = and-second (Bool·beq (eqb (laneOf (swapOf (c % 4)) j) i) (eqb j (laneAt (c % 4) i))) _ t in
-    record {
-      agree = rw (lane-code c j, at-code c i) (beq-true _ _ (and-first (Bool·beq (eqb (laneOf (swapOf (c % 4)) j) i) (eqb j (laneAt (c % 4) i))) _ t));
-      lane = rw (lane-code c j) (ltb-true _ 4 (and-first (ltb (laneOf (swapOf (c % 4)) j) 4) _ u));
-      byte = rw (at-code c i) (ltb-true _ 4 (and-second (ltb (laneOf (swapOf (c % 4)) j) 4) _ u));
-    }
-
 -- a lane exchanges with one of four bytes
 pub at-lt : (c i : ℕ) → i < 4 → laneAt c i < 4
-at-lt c i h = codes c 0 i (omega arith) h .byte
+unfolding laneAt
+at-lt c i h =
+    pick-by (λ (n : ℕ). n < 4) (eqb (c % 4) 1) (3 - i) _ (omega arith)
+    (pick-by (λ (n : ℕ). n < 4) (eqb (c % 4) 2) ((i + 2) % 4) i (omega arith) h)
+
+-- the rule is its own inverse, so lane j exchanges with byte i exactly where byte i does with lane j
+pub at-back : (c j : ℕ) → j < 4 → laneAt c (laneAt c j) ≡ j
+unfolding laneOf laneAt
+at-back c = lane-back (c % 4)
+
+at-agree : (c j i : ℕ) → j < 4 → i < 4 → eqb (laneAt c j) i ≡ eqb j (laneAt c i)
+at-agree c j i hj hi =
+    byTest (eqb j (laneAt c i))
+    (λ t. eq-eqb _ i (ap (laneAt c) (eqb-true j _ t) ∙ at-back c i hi) ∙ sym t)
+    (λ t. ne-eqb _ i (λ e. eqb-false j _ t (sym (at-back c j hj) ∙ ap (laneAt c) e)) ∙ sym t)
 
 -- ---- a write
 
@@ -92,10 +72,10 @@ eqb-since o n k h =
 module _ (c : ℕ) (a : Access) (k : ℕ) where
   -- what lane j puts there
   one : ℕ → Option ℕ
-  one j = pick (bit j (a .enables) && eqb (a .offset + laneOf (swapOf c) j) k) (some (laneByte j (a .word))) none
+  one j = pick (bit j (a .enables) && eqb (a .offset + laneAt c j) k) (some (laneByte j (a .word))) none
 
   poke-lane : (j : ℕ) (l : List Put) → lastPoke k (putLane c (atByte (a .offset)) (a .enables) (a .word) j l) ≡ laterOf (lastPoke k l) (one j)
-  unfolding putLane one reach
+  unfolding putLane one reach laneOf swapOf laneAt
   poke-lane j l = byTest (bit j (a .enables)) (λ t. simp t) (λ t. simp t (sym (later-left (lastPoke k l))))
 
   poke-four : lastPoke k (putsOf c (atByte (a .offset)) (a .enables) (a .word)) ≡ laterOf (laterOf (laterOf (one 3) (one 2)) (one 1)) (one 0)
@@ -106,18 +86,18 @@ module _ (c : ℕ) (a : Access) (k : ℕ) where
       (poke-lane 1 _ ∙ ap (λ (p : Option ℕ). laterOf p (one 1)) (poke-lane 2 _ ∙ ap (λ (p : Option ℕ). laterOf p (one 2)) (poke-lane 3 [])))
 
   -- a byte that is none of the four
-  one-none : (j : ℕ) → (a .offset + laneOf (swapOf c) j ≡ k → ⊥) → one j ≡ none
+  one-none : (j : ℕ) → (a .offset + laneAt c j ≡ k → ⊥) → one j ≡ none
   unfolding one
-  one-none j d = simp (ne-eqb (a .offset + laneOf (swapOf c) j) k d, and-false)
+  one-none j d = simp (ne-eqb (a .offset + laneAt c j) k d, and-false)
 
   poke-none : ((n : ℕ) → n < 4 → a .offset + n ≡ k → ⊥) → lastPoke k (putsOf c (atByte (a .offset)) (a .enables) (a .word)) ≡ none
   poke-none d =
       poke-four
       ∙ simp (
-        one-none 3 (d _ (codes c 3 0 (omega arith) (omega arith) .lane)),
-        one-none 2 (d _ (codes c 2 0 (omega arith) (omega arith) .lane)),
-        one-none 1 (d _ (codes c 1 0 (omega arith) (omega arith) .lane)),
-        one-none 0 (d _ (codes c 0 0 (omega arith) (omega arith) .lane)),
+        one-none 3 (d _ (at-lt c 3 (omega arith))),
+        one-none 2 (d _ (at-lt c 2 (omega arith))),
+        one-none 1 (d _ (at-lt c 1 (omega arith))),
+        one-none 0 (d _ (at-lt c 0 (omega arith))),
       )
 
   -- one of the four
@@ -128,8 +108,8 @@ module _ (c : ℕ) (a : Access) (k : ℕ) where
     one-its : (j : ℕ) → j < 4 → one j ≡ pick (eqb j (laneAt c (k - a .offset))) its none
     unfolding one its
     one-its j hj =
-        let e : eqb (a .offset + laneOf (swapOf c) j) k ≡ eqb j (laneAt c (k - a .offset)) =
-        eqb-since (a .offset) (laneOf (swapOf c) j) k h ∙ codes c j (k - a .offset) hj (omega arith) .agree in
+        let e : eqb (a .offset + laneAt c j) k ≡ eqb j (laneAt c (k - a .offset)) =
+        eqb-since (a .offset) (laneAt c j) k h ∙ at-agree c j (k - a .offset) hj (omega arith) in
         byTest (eqb j (laneAt c (k - a .offset)))
         (λ t. let d : j ≡ laneAt c (k - a .offset) = eqb-true j _ t in
         simp (e, t, and-true) (ap (λ (n : ℕ). pick (bit n (a .enables)) (some (laneByte n (a .word))) none) d))
@@ -139,7 +119,7 @@ module _ (c : ℕ) (a : Access) (k : ℕ) where
     poke-its =
         poke-four
         ∙ simp (one-its 3 (omega arith), one-its 2 (omega arith), one-its 1 (omega arith), one-its 0 (omega arith))
-        (only-one its (laneAt c (k - a .offset)) (codes c 0 (k - a .offset) (omega arith) (omega arith) .byte))
+        (only-one its (laneAt c (k - a .offset)) (at-lt c (k - a .offset) (omega arith)))
 
   -- what the write stores in byte k
   pub poke-told : lastPoke k (putsOf c (atByte (a .offset)) (a .enables) (a .word)) ≡ lanePut c a k
@@ -151,13 +131,14 @@ module _ (c : ℕ) (a : Access) (k : ℕ) where
       (λ u. simp (t, u) (poke-none (λ n hn e. let b = ltb-false k _ u in omega arith))))
       (λ t. simp t (poke-none (λ n hn e. let b = leb-false _ k t in omega arith)))
 
--- .. so with an offset and a swap code, in the byte that lane j exchanges with by that code
+-- in byte n of its four
 put-here : (c : ℕ) (a : Access) (n j : ℕ) → n < 4 → laneAt c n ≡ j → lanePut c a (a .offset + n) ≡ pick (bit j (a .enables)) (some (laneByte j (a .word))) none
 unfolding lanePut
 put-here c a n j h e =
     let s : a .offset + n - a .offset ≡ n = omega arith in
     simp (le-leb (a .offset) (a .offset + n) (omega arith), lt-ltb (a .offset + n) (a .offset + 4) (omega arith), s, e)
 
+-- .. and, of a write with this offset and this swap code, in the byte that lane j exchanges with
 pub lane-put : (c d : ℕ) (a : Access) (o j : ℕ) → j < 4 → a .offset ≡ o → c % 4 ≡ d % 4
     → lanePut c a (o + laneAt d j) ≡ pick (bit j (a .enables)) (some (laneByte j (a .word))) none
 lane-put c d a o j h p q =

@@ -72,7 +72,7 @@ byte-in-lane x a q g i d n b hn hb =
     place : (8 * laneAt c n + b) % 8 ≡ b
     place = omega arith
 
--- .. and after an accepted write a a read r with its target and offset and any enables
+-- .. and right after an accepted write a a read r with its target and offset, and with any enables from 0 to 15
 module _ (x : World) (a r : Access) (i : ℕ) (g : Good x) (w : WritesWindow x a i) (f : ReadsThere a r) (e : r .enables ≤ 15) where
   pub written-accepted : step (after x a) r .answer .status ≡ 0
   written-accepted = access-status (after x a) r ∙ back-accepted x a r i g w f e .done
@@ -82,7 +82,7 @@ module _ (x : World) (a r : Access) (i : ℕ) (g : Good x) (w : WritesWindow x a
       → shows (step (after x a) r .answer) b ≡ pick (bit (b / 8) (a .enables) && bit (b / 8) (r .enables)) (some (bit b (a .word))) (shows (step x r .answer) b)
   written-shown = back-shown x a r i g w f e
 
--- so with the enables of the write, whatever they are, it answers the word written, in the enabled lanes and known there
+-- so with the enables of the write, whatever they are, it is accepted and answers the word written, in the enabled lanes and known there
 pub written-back : (x : World) (a r : Access) (i : ℕ) → Good x → WritesWindow x a i → ReadsThere a r → r .enables ≡ a .enables
     → (step (after x a) r .answer .status ≡ 0) × (step (after x a) r .answer .word ≡ inside (a .word) (lanesOf (a .enables))) × (step (after x a) r .answer .known ≡ lanesOf (a .enables))
 written-back x a r i g w f q =
@@ -93,10 +93,10 @@ written-back x a r i g w f q =
 -- ---- after an opening and any list of accesses
 
 -- an accepted read shows each of its lanes whose byte was last stored at its offset by its swap code as that write had the lane, through either aperture
-pub lane-back : (w h : ℕ) (m p : List ℕ) → Openable w h m p → (l : List Access) (a : Access) → AcceptedRead (run (opened w h m p) l) a
+pub last-write-shown : (w h : ℕ) (m p : List ℕ) → Openable w h m p → (l : List Access) (a : Access) → AcceptedRead (run (opened w h m p) l) a
     → (i : ℕ) → Leads (run (opened w h m p) l .state) a (Window i) → (b : ℕ) → b < 32 → bit (b / 8) (a .enables) ≡ true
     → (f : LaneWritten (opened w h m p) l a i (b / 8)) → shows (step (run (opened w h m p) l) a .answer) b ≡ some (bit b (f .by .word))
-lane-back w h m p o l a q i d b hb t f =
+last-write-shown w h m p o l a q i d b hb t f =
     known-exactly w h m p o l a b hb (bit b (f .by .word)) .1
     (record { accepted = q .done; read = is-read a (q .read); lane = t; told = poked i d (laneByte (b / 8) (f .by .word)) stored (bit-lane b (f .by .word)) })
   where

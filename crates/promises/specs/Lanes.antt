@@ -27,7 +27,7 @@ pub record ReadsThere (a r : Access) : Type 0 where
   pub target : r .target ≡ a .target
   pub offset : r .offset ≡ a .offset
 
--- of a read a, made after list l through the aperture whose control register is in row i: a write of the list, through either aperture, had its offset, its swap code and lane j, and no access after
+-- of a read a, made after list l through the aperture whose control register is in row i: an accepted write of the list, through either aperture, had its offset, its swap code and lane j, and no access after
 -- it stores the byte of that lane
 pub record LaneWritten (x : World) (l : List Access) (a : Access) (i j : ℕ) : Type 0 where
   pub before : List Access

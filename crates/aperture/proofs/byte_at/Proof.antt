@@ -5,7 +5,6 @@ use native.Mathlib.Omega.{arith}
 use denote.Ref.{now}
 use lib.ListN.{getD, List·getD-eq-default}
 use borrow.Author.Needs.{needs}
-use borrow.Author.Needs.{needs}
 use Rattle.aperture.proofs.byte_at.Statement.{statement}
 use Rattle.aperture.proofs.byte_at.Tie as tie
 

@@ -4,7 +4,6 @@ use Rattle.chip.specs.Units.{atByte}
 use Rattle.chip.specs.Aperture.{swapOf}
 use Rattle.chip.proofs.Sums.{along-is}
 use borrow.Author.Needs.{needs}
-use borrow.Author.Needs.{needs}
 use Rattle.aperture.proofs.lane_place.Statement.{statement}
 use Rattle.aperture.proofs.lane_place.Tie as tie
 

@@ -8,7 +8,6 @@ use Rattle.chip.specs.Units.{atByte}
 use Rattle.chip.specs.Aperture.{span, reachesMemory}
 use Rattle.chip.proofs.Sums.{along-is}
 use borrow.Author.Needs.{needs}
-use borrow.Author.Needs.{needs}
 use Rattle.aperture.proofs.reaches_memory.Statement.{statement}
 use Rattle.aperture.proofs.reaches_memory.Tie as tie
 

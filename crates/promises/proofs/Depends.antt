@@ -62,16 +62,16 @@ record SamePort (x y : World) (a : Access) (p : Place) : Type 0 where
   puts : putsFrom (y .state) a (reachAt p .window) ≡ putsFrom (x .state) a (reachAt p .window)
 
 -- a good world's status, from the access and what its place is to it
-portStatus : Access → Bool → Bool → Bool → Bool → ℕ
+unfoldable pub portStatus : Access → Bool → Bool → Bool → Bool → ℕ
 portStatus a here r w t =
     firstOf
     (line 3 (not (leb (a .target) 3 && leb (a .enables) 15)) ∷ line 4 (not (eqb (a .offset % 4) 0)) ∷ line 5 (not here) ∷ line 6 (not (pick (isWrite a) w r))
     ∷ line 7 (not t) ∷ [])
 
-abbrev statusBy : State → Access → Place → ℕ
+abbrev pub statusBy : State → Access → Place → ℕ
 statusBy s a p = portStatus a (portAt s a p .present) (portAt s a p .reads) (portAt s a p .writes) (portAt s a p .served)
 
-good-status : (x : World) (a : Access) (p : Place) → Good x → placeOf (x .state) a ≡ p → statusAt x a ≡ statusBy (x .state) a p
+pub good-status : (x : World) (a : Access) (p : Place) → Good x → placeOf (x .state) a ≡ p → statusAt x a ≡ statusBy (x .state) a p
 unfolding statusOf accessLines laterLines portOf portStatus
 good-status x a p g e = simp (g .state, eq-eqb _ _ (g .memory), eq-eqb _ _ (g .picture), e)
 

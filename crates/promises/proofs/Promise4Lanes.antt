@@ -1,15 +1,18 @@
 -- Promise 4, the lanes of an aperture (01, Apertures, with 02, C-17): the rule is its own inverse, a read shows each byte in its lane, and gives back what a write by the same rule stored.
 -- From the laws of the lanes (Pokes), what is told of a byte (Known) and WrittenBack. Assumes nothing.
 use Prim.Native.Nat.{ℕ, _+_, _*_, _/_, _%_, _≤_, _<_}
-use mathlib.Core.Bool.{Bool, true, _&&_}
+use mathlib.Core.Bool.{Bool, true, false, _&&_}
 use mathlib.Core.List.{List}
 use mathlib.Core.Option.{none, some}
-use mathlib.Core.Path.{_≡_, refl, _∙_}
+use mathlib.Core.Path.{_≡_, refl, sym, ap, _∙_}
 use native.Mathlib.Omega.{arith}
 use lib.ListN.{getD}
 use Rattle.bits.specs.Choose.{pick}
 use Rattle.bits.specs.Bit.{bit}
 use Rattle.bits.specs.Word.{laneByte, inside, lanesOf}
+use Rattle.bits.proofs.Cases.{byTest}
+use Rattle.bits.proofs.Bools.{and-false, and-true}
+use Rattle.bits.proofs.Words.{bit-inside, lane-bit, lanes-lt, inside-le}
 use Rattle.bits.proofs.Lanes.{bit-lane}
 use Rattle.chip.specs.declared.Access.{Access}
 use Rattle.chip.specs.declared.Bytes.{Bytes}
@@ -25,11 +28,13 @@ use Rattle.promises.specs.Origin.{ByteStored}
 use Rattle.promises.specs.Told.{poked}
 use Rattle.promises.specs.Lanes.{WritesWindow, ReadsThere, LaneWritten}
 use Rattle.promises.proofs.Places.{leads-place}
+use Rattle.promises.proofs.Worlds.{good-kept}
 use Rattle.promises.proofs.Pokes.{at-lt, at-back, lane-put}
+use Rattle.promises.proofs.ShownWord.{shown-word}
 use Rattle.promises.proofs.Promise1Refusals.{access-status}
 use Rattle.promises.proofs.Promise4Reads.{memory-read}
 use Rattle.promises.proofs.Promise4Known.{known-exactly}
-use Rattle.promises.proofs.WrittenBack.{window-leaves, back-accepted, back-shown, back-word}
+use Rattle.promises.proofs.WrittenBack.{window-leaves, read-there, byte-back, shown-there}
 
 -- ---- the rule, of any control word
 
@@ -75,20 +80,47 @@ byte-in-lane x a q g i d n b hn hb =
 -- .. and right after an accepted write a a read r with its target and offset, and with any enables from 0 to 15
 module _ (x : World) (a r : Access) (i : ℕ) (g : Good x) (w : WritesWindow x a i) (f : ReadsThere a r) (e : r .enables ≤ 15) where
   pub written-accepted : step (after x a) r .answer .status ≡ 0
-  written-accepted = access-status (after x a) r ∙ back-accepted x a r i g w f e .done
+  written-accepted = access-status (after x a) r ∙ read-there x a r i g w f e (after x a) (good-kept x a g) (windows-leave x a i (w .through)) .done
 
   -- each lane of both is shown as written, every other as the read would have shown it without the write
   pub written-shown : (b : ℕ) → b < 32
       → shows (step (after x a) r .answer) b ≡ pick (bit (b / 8) (a .enables) && bit (b / 8) (r .enables)) (some (bit b (a .word))) (shows (step x r .answer) b)
-  written-shown = back-shown x a r i g w f e
+  written-shown b hb =
+      shown-there x a r i g w f e (after x a) (good-kept x a g) (windows-leave x a i (w .through)) b hb
+      ∙ ap (λ (v : ℕ). pick (bit (b / 8) (r .enables)) (some (bit (b % 8) v)) none) (byte-back x a r i g w f e (b / 8) (omega arith))
+      ∙ byTest (bit (b / 8) (r .enables))
+      (λ u. byTest (bit (b / 8) (a .enables)) (λ t. simp (t, u) (ap some (sym (bit-lane b (a .word))))) (λ t. simp (t, u) (sym (without ∙ simp u))))
+      (λ u. simp (u, and-false) (sym (without ∙ simp u)))
+    where
+      without : shows (step x r .answer) b ≡ pick (bit (b / 8) (r .enables)) (some (bit (b % 8) (getD (x .memory) (a .offset + laneAt (getD (x .state .values) i 0) (b / 8)) 0))) none
+      without = shown-there x a r i g w f e x g refl b hb
 
 -- so with the enables of the write, whatever they are, it is accepted and answers the word written, in the enabled lanes and known there
 pub written-back : (x : World) (a r : Access) (i : ℕ) → Good x → WritesWindow x a i → ReadsThere a r → r .enables ≡ a .enables
     → (step (after x a) r .answer .status ≡ 0) × (step (after x a) r .answer .word ≡ inside (a .word) (lanesOf (a .enables))) × (step (after x a) r .answer .known ≡ lanesOf (a .enables))
-written-back x a r i g w f q =
-    let e : r .enables ≤ 15 = omega (arith, q, unrefused (x .state) _ _ a (w .accepted) .enables) in
-    let z = back-word x a r i g w f e q in
-    (written-accepted x a r i g w f e, z .0, z .1)
+written-back x a r i g w f q = (written-accepted x a r i g w f e, answer .0, answer .1)
+  where
+    k : ℕ
+    k = lanesOf (a .enables)
+
+    e : r .enables ≤ 15
+    e = omega (arith, q, unrefused (x .state) _ _ a (w .accepted) .enables)
+
+    lane : (b : ℕ) → b < 32 → bit b k ≡ bit (b / 8) (a .enables)
+    lane b hb = lane-bit b (a .enables) hb (omega (arith, q, e))
+
+    above : (b : ℕ) → b < 32 → bit b k ≡ false → bit b (inside (a .word) k) ≡ false
+    above b hb t = bit-inside b (a .word) k ∙ simp (t, and-false)
+
+    bits : (b : ℕ) → b < 32 → shows (step (after x a) r .answer) b ≡ pick (bit b k) (some (bit b (inside (a .word) k))) none
+    bits b hb =
+        written-shown x a r i g w f e b hb
+        ∙ byTest (bit (b / 8) (a .enables))
+        (λ t. simp (q, t, lane b hb, bit-inside b (a .word) k, and-true))
+        (λ t. simp (q, t, lane b hb) (shown-there x a r i g w f e x g refl b hb ∙ simp (q, t)))
+
+    answer : (step (after x a) r .answer .word ≡ inside (a .word) k) × (step (after x a) r .answer .known ≡ k)
+    answer = shown-word (after x a) r (inside (a .word) k) k (omega (arith, inside-le (a .word) k, lanes-lt (a .enables))) (lanes-lt (a .enables)) above bits
 
 -- ---- after an opening and any list of accesses
 

@@ -1,7 +1,7 @@
--- A word that is written through an aperture and read there: the read is accepted, and shows the lanes of the write as written and the others as without it.
--- The state stays, so the read goes by the rule that the write went by, and the rule is its own inverse. Assumes nothing.
+-- A write through an aperture, and a read there: the read is accepted, goes by the rule that the write went by, and finds each lane's byte as the write left it.
+-- No access through an aperture alters the state; the byte of a lane by the rule that is its own inverse. Assumes nothing.
 use Prim.Native.Nat.{ℕ, _+_, _/_, _%_, _≤_, _<_}
-use mathlib.Core.Bool.{true, false, _&&_}
+use mathlib.Core.Bool.{true, false}
 use mathlib.Core.Option.{Option, none, some, Option·getD}
 use mathlib.Core.Path.{_≡_, refl, sym, ap, ap₂, _∙_, subst}
 use native.Mathlib.Omega.{arith}
@@ -9,10 +9,8 @@ use borrow.Author.Tests.{eq-eqb, le-leb, leb-true}
 use lib.ListN.{getD, length}
 use Rattle.bits.specs.Choose.{pick}
 use Rattle.bits.specs.Bit.{bit}
-use Rattle.bits.specs.Word.{laneByte, inside, lanesOf}
+use Rattle.bits.specs.Word.{laneByte}
 use Rattle.bits.proofs.Cases.{byTest}
-use Rattle.bits.proofs.Words.{bit-inside, lane-bit, lanes-lt, inside-le}
-use Rattle.bits.proofs.Lanes.{bit-lane}
 use Rattle.chip.specs.declared.State.{State}
 use Rattle.chip.specs.declared.Access.{Access}
 use Rattle.chip.specs.declared.Place.{Place}
@@ -22,7 +20,7 @@ use Rattle.chip.specs.Aperture.{served, span, reachesMemory}
 use Rattle.chip.specs.Patch.{applied}
 use Rattle.chip.specs.Place.{placeAt, placeOf}
 use Rattle.chip.specs.Port.{pokePatch, portAt}
-use Rattle.chip.specs.Refusal.{isWrite, portOf, laterLines, accessLines, statusOf}
+use Rattle.chip.specs.Refusal.{isWrite, portOf}
 use Rattle.chip.specs.Step.{patchOf}
 use Rattle.chip.specs.Trace.{World, step, after}
 use Rattle.chip.proofs.Refusals.{unrefused}
@@ -33,11 +31,11 @@ use Rattle.promises.specs.Frame.{laneAt, lanePut, windowPut, bytePut}
 use Rattle.promises.specs.Lanes.{WritesWindow, ReadsThere}
 use Rattle.promises.proofs.Patches.{patchAt}
 use Rattle.promises.proofs.Places.{leads-place}
-use Rattle.promises.proofs.Worlds.{after-state, good-kept}
+use Rattle.promises.proofs.Worlds.{after-state}
 use Rattle.promises.proofs.Pokes.{at-lt, lane-put}
 use Rattle.promises.proofs.MemoryBytes.{byte-step}
 use Rattle.promises.proofs.Shown.{shows-memory}
-use Rattle.promises.proofs.ShownWord.{shown-word}
+use Rattle.promises.proofs.Depends.{portStatus, good-status}
 
 -- no access through an aperture alters the state, read, written or refused
 pub window-leaves : (x : World) (a : Access) (i : ℕ) → placeOf (x .state) a ≡ Window i → after x a .state ≡ x .state
@@ -48,9 +46,8 @@ window-leaves x a i e =
 -- a read through an aperture is accepted where its four bytes are fitted and the mode is served
 read-accepted : (x : World) (r : Access) (i : ℕ) → Good x → placeOf (x .state) r ≡ Window i → isWrite r ≡ false → r .target ≤ 3 → r .enables ≤ 15 → r .offset % 4 ≡ 0
     → reachesMemory (x .state .fitted) (span (getD (x .state .values) i 0) (atByte (r .offset))) ≡ true → served (getD (x .state .values) i 0) ≡ true → statusAt x r ≡ 0
-unfolding statusOf accessLines laterLines portOf portAt
-read-accepted x r i g e w t n o p s =
-    simp (g .state, eq-eqb _ _ (g .memory), eq-eqb _ _ (g .picture), le-leb (r .target) 3 t, le-leb (r .enables) 15 n, o, e, p, s, w)
+unfolding portStatus portAt
+read-accepted x r i g e w t n o p s = good-status x r (Window i) g e ∙ simp (le-leb (r .target) 3 t, le-leb (r .enables) 15 n, o, p, s, w)
 
 -- what an accepted write through an aperture stores in a byte
 window-put : (x : World) (a : Access) (i k : ℕ) → WritesWindow x a i → bytePut k x a ≡ lanePut (getD (x .state .values) i 0) a k
@@ -64,9 +61,6 @@ module _ (x : World) (a r : Access) (i : ℕ) (g : Good x) (w : WritesWindow x a
   there : placeOf (x .state) a ≡ Window i
   there = leads-place (x .state) a (Window i) (w .through)
 
-  stays : after x a .state ≡ x .state
-  stays = window-leaves x a i there
-
   fitted : reachesMemory (x .state .fitted) (span control (atByte (a .offset))) ≡ true
   unfolding portOf portAt
   fitted = subst (λ (p : Place). portAt (x .state) a p .present ≡ true) there (unrefused (x .state) _ _ a (w .accepted) .present)
@@ -79,7 +73,7 @@ module _ (x : World) (a r : Access) (i : ℕ) (g : Good x) (w : WritesWindow x a
   read-place : (s : State) → s ≡ x .state → placeOf s r ≡ Window i
   read-place s q = ap₂ (λ (t o : ℕ). placeAt (s .dac) t o) (f .target) (f .offset) ∙ ap (λ (n : State). placeOf n a) q ∙ there
 
-  read-there : (y : World) → Good y → y .state ≡ x .state → AcceptedRead y r
+  pub read-there : (y : World) → Good y → y .state ≡ x .state → AcceptedRead y r
   read-there y h q =
       let u = unrefused (x .state) _ _ a (w .accepted) in
       record {
@@ -91,10 +85,7 @@ module _ (x : World) (a r : Access) (i : ℕ) (g : Good x) (w : WritesWindow x a
             (ap (λ (s : State). served (getD (s .values) i 0)) q ∙ serves);
       }
 
-  pub back-accepted : AcceptedRead (after x a) r
-  back-accepted = read-there (after x a) (good-kept x a g) stays
-
-  -- the byte that lane j exchanges with
+  -- the byte that lane j exchanges with, and what is there after the write
   abbrev byte : ℕ → ℕ
   byte j = a .offset + laneAt control j
 
@@ -102,51 +93,15 @@ module _ (x : World) (a r : Access) (i : ℕ) (g : Good x) (w : WritesWindow x a
   unfolding reachesMemory span
   byte-fitted j h = omega (arith, leb-true (a .offset + 4) (x .state .fitted) fitted, at-lt control j h, g .memory)
 
-  byte-back : (j : ℕ) → j < 4 → getD (after x a .memory) (byte j) 0 ≡ pick (bit j (a .enables)) (laneByte j (a .word)) (getD (x .memory) (byte j) 0)
+  pub byte-back : (j : ℕ) → j < 4 → getD (after x a .memory) (byte j) 0 ≡ pick (bit j (a .enables)) (laneByte j (a .word)) (getD (x .memory) (byte j) 0)
   byte-back j h =
       byte-step (byte j) x a (byte-fitted j h)
       ∙ ap (λ (o : Option ℕ). Option·getD o (getD (x .memory) (byte j) 0)) (window-put x a i (byte j) w ∙ lane-put control control a (a .offset) j h refl refl)
       ∙ byTest (bit j (a .enables)) (λ t. simp t) (λ t. simp t)
 
   -- what the read shows of memory, in any good world with that state
-  shown-there : (y : World) → Good y → y .state ≡ x .state → (b : ℕ) → b < 32
+  pub shown-there : (y : World) → Good y → y .state ≡ x .state → (b : ℕ) → b < 32
       → shows (step y r .answer) b ≡ pick (bit (b / 8) (r .enables)) (some (bit (b % 8) (getD (y .memory) (byte (b / 8)) 0))) none
   shown-there y h q b hb =
       shows-memory y r b (read-there y h q) hb h i (read-place (y .state) q)
       ∙ ap₂ (λ (o : ℕ) (s : State). pick (bit (b / 8) (r .enables)) (some (bit (b % 8) (getD (y .memory) (o + laneAt (getD (s .values) i 0) (b / 8)) 0))) none) (f .offset) q
-
-  -- a lane of both is shown as written, and every other as it would have been without the write
-  pub back-shown : (b : ℕ) → b < 32
-      → shows (step (after x a) r .answer) b ≡ pick (bit (b / 8) (a .enables) && bit (b / 8) (r .enables)) (some (bit b (a .word))) (shows (step x r .answer) b)
-  back-shown b hb =
-      shown-there (after x a) (good-kept x a g) stays b hb
-      ∙ ap (λ (v : ℕ). pick (bit (b / 8) (r .enables)) (some (bit (b % 8) v)) none) (byte-back (b / 8) (omega arith))
-      ∙ byTest (bit (b / 8) (r .enables))
-      (λ u. byTest (bit (b / 8) (a .enables))
-      (λ t. simp (t, u) (ap some (sym (bit-lane b (a .word)))))
-      (λ t. simp (t, u) (sym (shown-there x g refl b hb ∙ simp u))))
-      (λ u. byTest (bit (b / 8) (a .enables))
-      (λ t. simp (t, u) (sym (shown-there x g refl b hb ∙ simp u)))
-      (λ t. simp (t, u) (sym (shown-there x g refl b hb ∙ simp u))))
-
-  -- with the enables of the write it answers the word in the enabled lanes, known there
-  pub back-word : r .enables ≡ a .enables
-      → (step (after x a) r .answer .word ≡ inside (a .word) (lanesOf (a .enables))) × (step (after x a) r .answer .known ≡ lanesOf (a .enables))
-  back-word q = shown-word (after x a) r v k (omega (arith, inside-le (a .word) k, lanes-lt (a .enables))) (lanes-lt (a .enables)) above bits
-    where
-      k : ℕ
-      k = lanesOf (a .enables)
-
-      v : ℕ
-      v = inside (a .word) k
-
-      lane : (b : ℕ) → b < 32 → bit b k ≡ bit (b / 8) (a .enables)
-      lane b hb = lane-bit b (a .enables) hb (omega (arith, q))
-
-      above : (b : ℕ) → b < 32 → bit b k ≡ false → bit b v ≡ false
-      above b hb t = bit-inside b (a .word) k ∙ byTest (bit b (a .word)) (λ u. simp (t, u)) (λ u. simp (t, u))
-
-      bits : (b : ℕ) → b < 32 → shows (step (after x a) r .answer) b ≡ pick (bit b k) (some (bit b v)) none
-      bits b hb = back-shown b hb ∙ byTest (bit (b / 8) (a .enables))
-          (λ t. simp (q, t, lane b hb, bit-inside b (a .word) k) (ap some (byTest (bit b (a .word)) (λ u. simp u) (λ u. simp u))))
-          (λ t. simp (q, t, lane b hb) (shown-there x g refl b hb ∙ simp (q, t)))

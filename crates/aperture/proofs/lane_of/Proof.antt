@@ -1,4 +1,4 @@
--- `aperture::lane_of` is the definition, swap code by swap code. Assumes nothing.
+-- `aperture::lane_of` is the definition, swap code by swap code; what a test says of the code stands by itself, so that a wrong test's log names a code. Assumes nothing.
 use Prim.Native.Nat.{_+_, _-_, _%_}
 use mathlib.Core.Path.{_≡_, sym, _∙_}
 use native.Mathlib.Omega.{arith}
@@ -10,11 +10,14 @@ use Rattle.aperture.proofs.lane_of.Tie as tie
 returns : tie.Need-returns
 returns c =
     let a = c .before .before .args in
+    let k : a .swap ≡ 1 = omega (arith, c .before .if1 .taken) in
     let e : 0 ≡ 3 - a .i = omega arith in
-    e ∙ sym (turned (a .swap) (a .i) (c .before .if1 .taken))
+    e ∙ sym (turned (a .swap) (a .i) k)
 
 returns-2 : tie.Need-returns-2
-returns-2 c = sym (turned (c .before .before .args .swap) _ (c .before .if1 .taken))
+returns-2 c =
+    let k : c .before .before .args .swap ≡ 1 = omega (arith, c .before .if1 .taken) in
+    sym (turned (c .before .before .args .swap) _ k)
 
 add-result : tie.Need-add-result
 add-result c = search needs

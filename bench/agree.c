@@ -1,5 +1,5 @@
-/* Do the proved model and the plain one agree? Random accesses on panels of many sizes, with altered pictures, altered states and wrong lengths. After each
- * access the answers, states, memories and pictures are compared, whole.
+/* Do the proved model and the plain one agree? Random reads, writes and looks on panels of many sizes, with altered pictures, altered states and wrong lengths.
+ * After each the answers, states, memories and pictures are compared, whole.
  *   agree [SEED [ACCESSES]]      ACCESSES on each panel */
 #include "world.h"
 #include <stdio.h>
@@ -12,10 +12,11 @@ static const struct {
 };
 
 static unsigned statuses[10];
+static unsigned long looks;
 
-static int show(const char *what, unsigned panel, unsigned long i, const struct pm_access *a, const struct plain_answer *p, const struct plain_answer *q) {
-    printf("agree: %s differ: panel %u, access %lu: target %x offset %x write %x enables %x word %08x\n", what, panel, i, (unsigned)a->target,
-        (unsigned)a->offset, (unsigned)a->write, (unsigned)a->enables, (unsigned)a->word);
+static int show(const char *what, unsigned panel, unsigned long i, const struct access *a, const struct plain_answer *p, const struct plain_answer *q) {
+    printf("agree: %s differ: panel %u, access %lu: %c target %x offset %x enables %x word %08x\n", what, panel, i, "rwl"[a->kind], (unsigned)a->target,
+        (unsigned)a->offset, (unsigned)a->enables, (unsigned)a->word);
     printf("  proved %u %08x %08x %u\n  plain  %u %08x %08x %u\n", (unsigned)p->status, (unsigned)p->word, (unsigned)p->known, (unsigned)p->changed,
         (unsigned)q->status, (unsigned)q->word, (unsigned)q->known, (unsigned)q->changed);
     return 1;
@@ -62,7 +63,9 @@ static int try_panel(unsigned n, uint64_t *seed, unsigned long count) {
                 bad = 1;
             }
         }
-        struct pm_access a = random_access(seed, p.memory_length);
+        struct access a = random_access(seed, p.memory_length);
+        if (random_word(seed) % 4 == 0) a.kind = LOOK;
+        looks += a.kind == LOOK;
         uint32_t odd = random_word(seed) % 256;
         struct pm_state kept = p.state;
         if (odd < 8) { /* one bit of the state: anywhere, or in the few bytes of sizes and RAMDAC */
@@ -78,7 +81,7 @@ static int try_panel(unsigned n, uint64_t *seed, unsigned long count) {
         struct world p1 = p, q1 = q;
         if (odd >= 16 && odd < 18) p1.memory_length = q1.memory_length = p.memory_length - 8;
         if (odd >= 18 && odd < 20) p1.picture_length = q1.picture_length = p.picture_length - 1;
-        struct plain_answer r = access_proved(&p1, &a), t = access_plain(&q1, &a);
+        struct plain_answer r = ask_proved(&p1, &a), t = ask_plain(&q1, &a);
         statuses[r.status % 10]++;
         if (!same_answers(&r, &t)) bad |= show("answers", n, i, &a, &r, &t);
         if (!same_states(&p1.state, &q1.state)) bad |= show("states", n, i, &a, &r, &t);
@@ -98,7 +101,7 @@ int main(int argc, char **argv) {
     unsigned n = sizeof panels / sizeof *panels;
     for (unsigned i = 0; i < n; i++)
         if (try_panel(i, &seed, count)) return 1;
-    printf("agree: %lu accesses on %u panels, all alike; by status:", count * n, n);
+    printf("agree: %lu accesses on %u panels, %lu of them looks, all alike; by status:", count * n, n, looks);
     for (unsigned i = 0; i < 10; i++) printf(" %u", statuses[i]);
     putchar('\n');
     return 0;

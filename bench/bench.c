@@ -8,7 +8,7 @@
 #include <time.h>
 
 #define MOST 200000
-static struct pm_access work[MOST];
+static struct access work[MOST];
 static struct plain_answer proved_answers[MOST], plain_answers[MOST];
 static struct world proved, plain;
 static int wrong;
@@ -21,13 +21,18 @@ static double now_ns(void) {
     return (double)t.tv_sec * 1e9 + (double)t.tv_nsec;
 }
 
-static struct pm_access write_of(uint32_t target, uint32_t offset, uint32_t enables, uint32_t word) {
-    struct pm_access a = { target, offset, 1, enables, word };
+static struct access write_of(uint32_t target, uint32_t offset, uint32_t enables, uint32_t word) {
+    struct access a = { target, offset, WRITE, enables, word };
     return a;
 }
 
-static struct pm_access read_of(uint32_t target, uint32_t offset) {
-    struct pm_access a = { target, offset, 0, 15, 0 };
+static struct access read_of(uint32_t target, uint32_t offset) {
+    struct access a = { target, offset, READ, 15, 0 };
+    return a;
+}
+
+static struct access look_of(uint32_t target, uint32_t offset) {
+    struct access a = { target, offset, LOOK, 15, 0 };
     return a;
 }
 
@@ -36,8 +41,8 @@ static void differ(const char *what, const char *where) {
     wrong = 1;
 }
 
-static void both(struct pm_access a) {
-    struct plain_answer p = access_proved(&proved, &a), q = access_plain(&plain, &a);
+static void both(struct access a) {
+    struct plain_answer p = ask_proved(&proved, &a), q = ask_plain(&plain, &a);
     if (!same_answers(&p, &q) || p.status != PM_DONE) differ("answers", "setting up");
 }
 
@@ -77,8 +82,8 @@ struct times {
 /* WORD is in the name, or the name, that of a group of cases, is in WORD */
 static int wanted(const char *name) { return strstr(name, only) || strstr(only, name); }
 
-static int varies(const struct pm_access *a) {
-    return a->write && (a->target == PM_APERTURE_ONE || (a->target == PM_REGION_0 && a->offset == 0x4008));
+static int varies(const struct access *a) {
+    return a->kind == WRITE && (a->target == PM_APERTURE_ONE || (a->target == PM_REGION_0 && a->offset == 0x4008));
 }
 
 /* The best time of an access in the first n of work. What is written is other bytes in every turn, so that as many dots change. */
@@ -88,9 +93,9 @@ static struct times measure(const char *name, unsigned n) {
     if (!wanted(name)) return best;
     for (unsigned t = 0; t < turns; t++) {
         double t0 = now_ns();
-        for (unsigned i = 0; i < n; i++) proved_answers[i] = access_proved(&proved, &work[i]);
+        for (unsigned i = 0; i < n; i++) proved_answers[i] = ask_proved(&proved, &work[i]);
         double t1 = now_ns();
-        for (unsigned i = 0; i < n; i++) plain_answers[i] = access_plain(&plain, &work[i]);
+        for (unsigned i = 0; i < n; i++) plain_answers[i] = ask_plain(&plain, &work[i]);
         double t2 = now_ns();
         if (t1 - t0 < best.proved) best.proved = t1 - t0;
         if (t2 - t1 < best.plain) best.plain = t2 - t1;
@@ -121,6 +126,8 @@ static void register_accesses(void) {
     set_up(4, 1, 16, 1, 1, 1);
     for (unsigned i = 0; i < 20000; i++) work[i] = read_of(PM_REGION_0, some[i % 8]);
     measure("register read", 20000);
+    for (unsigned i = 0; i < 20000; i++) work[i] = look_of(PM_REGION_0, some[i % 8]);
+    measure("register look", 20000);
     for (unsigned i = 0; i < 20000; i++) work[i] = write_of(PM_REGION_0, some[1 + i % 7], 15, i * 0x01010101);
     measure("register write that shows nothing", 20000);
 }

@@ -215,10 +215,15 @@ static uint32_t redraw_byte(const struct pm_state *s, const struct view *v, uint
 
 /* ---- apertures ---- */
 
+/* what is asked for; a read and a look have no word */
+struct asked {
+    uint32_t target, offset, enables, word;
+};
+
 /* the lane of memory byte o + i, by swap code: the rule of 01 written out, so that the two models do not share a way to it */
 static const uint8_t lane_of[3][4] = { { 0, 1, 2, 3 }, { 3, 2, 1, 0 }, { 2, 3, 0, 1 } };
 
-static uint32_t write_memory(const struct pm_state *s, const struct pm_access *a, unsigned swap, uint8_t *memory, uint32_t *picture) {
+static uint32_t write_memory(const struct pm_state *s, const struct asked *a, unsigned swap, uint8_t *memory, uint32_t *picture) {
     struct view v = view_of(s);
     uint32_t changed = 0;
     /* a word never crosses the end of a row where rows do not overlap: offsets are multiples of four, rows of eight. One division serves it */
@@ -251,7 +256,17 @@ static uint32_t read_memory(uint32_t offset, unsigned swap, const uint8_t *memor
     return w;
 }
 
-/* ---- an access ---- */
+/* 3.2.11: bits 0 and 1 the swap; 3 packed 16-bit, 8 SVGA, 9 ROM */
+static uint32_t window_status(const struct pm_state *s, uint32_t control, uint32_t offset) {
+    if ((uint64_t)offset + 4 > s->fitted) return PM_NOTHING_HERE;
+    return (control & 3) == 3 || (control & 0x308) ? PM_MODE_UNSERVED : PM_DONE;
+}
+
+static uint32_t control_of(const struct pm_state *s, uint32_t target) {
+    return s->values[target == PM_APERTURE_ONE ? PM_ROW_APERTURE_ONE : PM_ROW_APERTURE_TWO];
+}
+
+/* ---- a read, a write and a look: what they share ---- */
 
 static struct plain_answer answer(uint32_t status, uint32_t word, uint32_t known, uint32_t changed) {
     struct plain_answer r = { status, word, known, changed };
@@ -260,26 +275,106 @@ static struct plain_answer answer(uint32_t status, uint32_t word, uint32_t known
 
 static struct plain_answer refused(uint32_t status) { return answer(status, 0, 0, 0); }
 
+/* refusals 1 to 4 */
+static uint32_t form_status(const struct pm_state *s, const struct asked *a, size_t memory_length, size_t picture_length) {
+    if (!is_state(s)) return PM_NO_STATE;
+    if (memory_length != s->fitted || picture_length != (size_t)s->width * s->height) return PM_WRONG_LENGTH;
+    if (a->target > 3 || a->enables > 15) return PM_BAD_FORM;
+    return a->offset % 4 ? PM_UNALIGNED : PM_DONE;
+}
+
+/* one more than the row of a register in region 0 or behind the index, or 0 */
+static unsigned region_row(const struct pm_state *s, uint32_t offset) {
+    if (offset == 0x4050) return s->dac.known == 0xFF ? index_at[s->dac.address] : 0;
+    return offset % 8 == 0 && offset / 8 < ROW_OFFSETS ? row_at[offset / 8] : 0;
+}
+
+/* ---- a look, and a read, which is a look that steps ---- */
+
 static struct plain_answer seen(uint32_t value, uint32_t known, uint32_t enables) {
     known &= lanes_of[enables];
     return answer(PM_DONE, value & known, known, 0);
 }
 
+static struct plain_answer register_seen(const struct pm_state *s, unsigned row, uint32_t enables) {
+    return row_reads(row) ? seen(s->values[row], s->knowns[row], enables) : refused(PM_NO_DIRECTION);
+}
+
+static struct plain_answer data_seen(const struct pm_state *s, uint32_t enables) {
+    const struct pm_dac *d = &s->dac;
+    const struct pm_palette *p = &s->palette;
+    if (d->known != 0xFF) return refused(PM_NOTHING_HERE);
+    uint8_t e = d->address, v = d->component == 0 ? p->red[e] : d->component == 1 ? p->green[e] : p->blue[e];
+    return seen(s->values[PM_ROW_RD_MISC_CONTROL] & 2 ? v : v / 4u, p->stored[e] ? 0xFF : 0, enables);
+}
+
+static struct plain_answer region_seen(const struct pm_state *s, const struct asked *a) {
+    if (a->offset == 0x4000 || a->offset == 0x4018) return seen(s->dac.address, s->dac.known, a->enables);
+    if (a->offset == 0x4008) return data_seen(s, a->enables);
+    unsigned row = region_row(s, a->offset);
+    return row ? register_seen(s, row - 1, a->enables) : refused(PM_NOTHING_HERE);
+}
+
+static struct plain_answer window_seen(const struct pm_state *s, const struct asked *a, const uint8_t *memory) {
+    uint32_t control = control_of(s, a->target), status = window_status(s, control, a->offset);
+    return status ? refused(status) : seen(read_memory(a->offset, control & 3, memory), ALL, a->enables);
+}
+
+static struct plain_answer header_seen(const struct pm_state *s, const struct asked *a) {
+    if (a->offset > 0xFC) return refused(PM_NOTHING_HERE);
+    unsigned row = header_at[a->offset / 4];
+    return row ? register_seen(s, row - 1, a->enables) : seen(0, ALL, a->enables);
+}
+
+static struct plain_answer seen_at(const struct pm_state *s, const struct asked *a, const uint8_t *memory, size_t memory_length, size_t picture_length) {
+    uint32_t status = form_status(s, a, memory_length, picture_length);
+    if (status) return refused(status);
+    switch (a->target) {
+    case PM_REGION_0: return region_seen(s, a);
+    case PM_CONFIGURATION: return header_seen(s, a);
+    default: return window_seen(s, a, memory);
+    }
+}
+
+struct plain_answer plain_look(const struct pm_state *s, uint32_t target, uint32_t offset, uint32_t enables, const uint8_t *memory, size_t memory_length,
+    size_t picture_length) {
+    struct asked a = { target, offset, enables, 0 };
+    return seen_at(s, &a, memory, memory_length, picture_length);
+}
+
+/* every read and write of palette data advances the component, and after 2 the address */
+static void advance(struct pm_dac *d, uint8_t staged, uint8_t red, uint8_t green) {
+    if (d->component < 2) {
+        d->component++;
+    } else {
+        d->component = 0;
+        d->address++;
+    }
+    d->staged = staged;
+    d->red = red;
+    d->green = green;
+}
+
+struct plain_answer plain_read(struct pm_state *s, uint32_t target, uint32_t offset, uint32_t enables, const uint8_t *memory, size_t memory_length,
+    size_t picture_length) {
+    struct asked a = { target, offset, enables, 0 };
+    struct plain_answer r = seen_at(s, &a, memory, memory_length, picture_length);
+    if (r.status == PM_DONE && target == PM_REGION_0 && offset == 0x4008 && (enables & 1)) advance(&s->dac, 0, 0, 0);
+    return r;
+}
+
+/* ---- a write ---- */
+
 static struct plain_answer written(uint32_t changed) { return answer(PM_DONE, 0, 0, changed); }
 
-static struct plain_answer window(struct pm_state *s, const struct pm_access *a, uint32_t control, uint8_t *memory, uint32_t *picture) {
-    if ((uint64_t)a->offset + 4 > s->fitted) return refused(PM_NOTHING_HERE);
-    /* 3.2.11: bits 0 and 1 the swap; 3 packed 16-bit, 8 SVGA, 9 ROM */
-    unsigned swap = control & 3;
-    if (swap == 3 || (control & 0x308)) return refused(PM_MODE_UNSERVED);
-    if (a->write) return written(write_memory(s, a, swap, memory, picture));
-    return seen(read_memory(a->offset, swap, memory), ALL, a->enables);
+static struct plain_answer write_window(const struct pm_state *s, const struct asked *a, uint8_t *memory, uint32_t *picture) {
+    uint32_t control = control_of(s, a->target), status = window_status(s, control, a->offset);
+    return status ? refused(status) : written(write_memory(s, a, control & 3, memory, picture));
 }
 
 /* any register of the bank */
-static struct plain_answer register_at(struct pm_state *s, const struct pm_access *a, unsigned row, const uint8_t *memory, uint32_t *picture) {
-    if (!(a->write ? row_writes(row) : row_reads(row))) return refused(PM_NO_DIRECTION);
-    if (!a->write) return seen(s->values[row], s->knowns[row], a->enables);
+static struct plain_answer write_register(struct pm_state *s, const struct asked *a, unsigned row, const uint8_t *memory, uint32_t *picture) {
+    if (!row_writes(row)) return refused(PM_NO_DIRECTION);
     uint32_t bits = row_writable[row], word = a->word;
     if (row == PM_ROW_CFG_SUBSYSTEM) { /* D-17: a half is fixed by the first write with both of its lanes */
         uint32_t halves = ((a->enables & 3) == 3 ? 1u : 0u) | ((a->enables & 12) == 12 ? 2u : 0u);
@@ -300,42 +395,20 @@ static struct plain_answer register_at(struct pm_state *s, const struct pm_acces
     return written(shows ? redraw(s, from, view_of(s), memory, picture) : 0);
 }
 
-static struct plain_answer header(struct pm_state *s, const struct pm_access *a, const uint8_t *memory, uint32_t *picture) {
+static struct plain_answer write_header(struct pm_state *s, const struct asked *a, const uint8_t *memory, uint32_t *picture) {
     if (a->offset > 0xFC) return refused(PM_NOTHING_HERE);
     unsigned row = header_at[a->offset / 4];
-    if (row == 0) return a->write ? written(0) : seen(0, ALL, a->enables);
-    return register_at(s, a, row - 1, memory, picture);
+    return row ? write_register(s, a, row - 1, memory, picture) : written(0);
 }
 
-/* every palette data access advances the component, and after 2 the address */
-static void advance(struct pm_dac *d, uint8_t staged, uint8_t red, uint8_t green) {
-    if (d->component < 2) {
-        d->component++;
-    } else {
-        d->component = 0;
-        d->address++;
-    }
-    d->staged = staged;
-    d->red = red;
-    d->green = green;
-}
-
-static struct plain_answer palette_data(struct pm_state *s, const struct pm_access *a, const uint8_t *memory, uint32_t *picture) {
+static struct plain_answer write_data(struct pm_state *s, const struct asked *a, const uint8_t *memory, uint32_t *picture) {
     struct pm_dac *d = &s->dac;
     struct pm_palette *p = &s->palette;
     if (d->known != 0xFF) return refused(PM_NOTHING_HERE);
-    int lane = a->enables & 1, wide = s->values[PM_ROW_RD_MISC_CONTROL] & 2;
+    if (!(a->enables & 1)) return written(0);
     unsigned e = d->address;
-    if (!a->write) {
-        if (!lane) return seen(0, 0, a->enables);
-        uint8_t v = d->component == 0 ? p->red[e] : d->component == 1 ? p->green[e] : p->blue[e];
-        struct plain_answer r = seen(wide ? v : v / 4u, p->stored[e] ? 0xFF : 0, a->enables);
-        advance(d, 0, 0, 0);
-        return r;
-    }
-    if (!lane) return written(0);
     uint32_t w = a->word % 64;
-    uint8_t v = (uint8_t)(wide ? a->word : 4 * w + w / 16);
+    uint8_t v = (uint8_t)(s->values[PM_ROW_RD_MISC_CONTROL] & 2 ? a->word : 4 * w + w / 16);
     if (d->component == 0) {
         advance(d, 1, v, 0);
     } else if (d->component == 1 && d->staged == 1) {
@@ -355,39 +428,25 @@ static struct plain_answer palette_data(struct pm_state *s, const struct pm_acce
     return written(0);
 }
 
-static struct plain_answer indexed_data(struct pm_state *s, const struct pm_access *a, const uint8_t *memory, uint32_t *picture) {
-    if (s->dac.known != 0xFF) return refused(PM_NOTHING_HERE);
-    unsigned row = index_at[s->dac.address];
-    if (row == 0) return refused(PM_NOTHING_HERE);
-    return register_at(s, a, row - 1, memory, picture);
-}
-
-static struct plain_answer region(struct pm_state *s, const struct pm_access *a, const uint8_t *memory, uint32_t *picture) {
-    switch (a->offset) {
-    case 0x4000: /* RDPaletteWriteAddress and RDPaletteReadAddress: one address */
-    case 0x4018:
-        if (!a->write) return seen(s->dac.address, s->dac.known, a->enables);
+static struct plain_answer write_region(struct pm_state *s, const struct asked *a, const uint8_t *memory, uint32_t *picture) {
+    if (a->offset == 0x4008) return write_data(s, a, memory, picture);
+    if (a->offset == 0x4000 || a->offset == 0x4018) { /* RDPaletteWriteAddress and RDPaletteReadAddress: one address */
         if (a->enables & 1) s->dac = (struct pm_dac){ .address = (uint8_t)a->word, .known = 0xFF };
         return written(0);
-    case 0x4008: return palette_data(s, a, memory, picture);
-    case 0x4050: return indexed_data(s, a, memory, picture);
     }
-    unsigned row = a->offset % 8 == 0 && a->offset / 8 < ROW_OFFSETS ? row_at[a->offset / 8] : 0;
-    if (row == 0) return refused(PM_NOTHING_HERE);
-    return register_at(s, a, row - 1, memory, picture);
+    unsigned row = region_row(s, a->offset);
+    return row ? write_register(s, a, row - 1, memory, picture) : refused(PM_NOTHING_HERE);
 }
 
-struct plain_answer plain_access(struct pm_state *s, const struct pm_access *a, uint8_t *memory, size_t memory_length, uint32_t *picture,
-    size_t picture_length) {
-    if (!is_state(s)) return refused(PM_NO_STATE);
-    if (memory_length != s->fitted || picture_length != (size_t)s->width * s->height) return refused(PM_WRONG_LENGTH);
-    if (a->target > 3 || a->enables > 15) return refused(PM_BAD_FORM);
-    if (a->offset % 4) return refused(PM_UNALIGNED);
-    switch (a->target) {
-    case PM_REGION_0: return region(s, a, memory, picture);
-    case PM_APERTURE_ONE: return window(s, a, s->values[PM_ROW_APERTURE_ONE], memory, picture);
-    case PM_APERTURE_TWO: return window(s, a, s->values[PM_ROW_APERTURE_TWO], memory, picture);
-    default: return header(s, a, memory, picture);
+struct plain_answer plain_write(struct pm_state *s, uint32_t target, uint32_t offset, uint32_t enables, uint32_t word, uint8_t *memory, size_t memory_length,
+    uint32_t *picture, size_t picture_length) {
+    struct asked a = { target, offset, enables, word };
+    uint32_t status = form_status(s, &a, memory_length, picture_length);
+    if (status) return refused(status);
+    switch (target) {
+    case PM_REGION_0: return write_region(s, &a, memory, picture);
+    case PM_CONFIGURATION: return write_header(s, &a, memory, picture);
+    default: return write_window(s, &a, memory, picture);
     }
 }
 

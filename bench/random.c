@@ -8,16 +8,17 @@ static const uint32_t offsets[] = {
 static const uint32_t indices[] = { 0x06, 0x18, 0x19, 0x1C, 0x1E, 0x20, 0x22, 0x28, 0x29, 0x30, 0x32, 0x33, 0x40, 0x44, 0x45, 0xFF };
 static const uint32_t modes[] = { 0x10, 0x10, 0x10, 0x30, 0x90, 0xBF, 0x00, 0x11 };
 
-struct pm_access random_access(uint64_t *seed, size_t memory_length) {
+struct access random_access(uint64_t *seed, size_t memory_length) {
     uint32_t r = random_word(seed), kind = r % 64, n = r >> 6;
-    struct pm_access a = { PM_REGION_0, 0, random_word(seed) % 2, 15, random_word(seed) };
+    struct access a = { PM_REGION_0, 0, random_word(seed) % 2 ? WRITE : READ, 15, 0 };
+    a.word = random_word(seed);
     if (random_word(seed) % 4 == 0) a.enables = random_word(seed) % 16;
     if (kind < 16) { /* memory, now and then beyond its end */
         a.target = PM_APERTURE_ONE + n % 2;
         a.offset = random_word(seed) % (uint32_t)(memory_length + 8) & ~3u;
     } else if (kind < 34) { /* palette data */
         a.offset = 0x4008;
-        if (n % 8) a.write = 1;
+        if (n % 8) a.kind = WRITE;
     } else if (kind < 38) { /* an index, or an entry */
         a.offset = n % 2 ? 0x4000 : 0x4018;
         a.word = n / 2 % 2 ? indices[n / 4 % (sizeof indices / sizeof *indices)] : random_word(seed) % 256;
@@ -46,7 +47,7 @@ struct pm_access random_access(uint64_t *seed, size_t memory_length) {
     } else { /* of no form */
         a.target = random_word(seed) >> n % 32;
         a.offset = random_word(seed) >> n / 32 % 32;
-        a.write = random_word(seed);
+        a.kind = random_word(seed) % 2 ? WRITE : READ;
         a.enables = random_word(seed) >> n / 1024 % 32;
     }
     return a;

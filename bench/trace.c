@@ -24,15 +24,15 @@ static const char *hex(const char *p, uint32_t *out) {
 }
 
 /* `r TARGET OFFSET ENABLES` or `w TARGET OFFSET ENABLES WORD`, each parted by one space; 1 where the line has that form */
-static int parse(const char *p, struct pm_access *a) {
+static int parse(const char *p, struct access *a) {
     if (*p != 'r' && *p != 'w') return 0;
-    a->write = *p++ == 'w';
+    a->kind = *p++ == 'w' ? WRITE : READ;
     a->word = 0;
     if (*p++ != ' ' || *p < '0' || *p > '9') return 0;
     a->target = (uint32_t)(*p++ - '0');
     if (*p++ != ' ' || !(p = hex(p, &a->offset))) return 0;
     if (*p++ != ' ' || !(p = hex(p, &a->enables))) return 0;
-    if (a->write && (*p++ != ' ' || !(p = hex(p, &a->word)))) return 0;
+    if (a->kind == WRITE && (*p++ != ' ' || !(p = hex(p, &a->word)))) return 0;
     return *p == 0;
 }
 
@@ -62,12 +62,12 @@ int main(int argc, char **argv) {
     char line[LONGEST + 1];
     size_t length;
     while (next_line(line, &length)) {
-        struct pm_access a;
+        struct access a;
         if (length > LONGEST || !parse(line, &a)) {
             puts("bad");
             continue;
         }
-        struct plain_answer r = access_proved(&p, &a), t = access_plain(&q, &a);
+        struct plain_answer r = ask_proved(&p, &a), t = ask_plain(&q, &a);
         printf("%u %08x %08x %u\n", (unsigned)r.status, (unsigned)r.word, (unsigned)r.known, (unsigned)r.changed);
         if (!same_answers(&r, &t) || !same_states(&p.state, &q.state) || !same_buffers(&p, &q)) {
             puts("trace: the plain model differs");

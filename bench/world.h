@@ -1,9 +1,17 @@
-/* One chip with its buffers, and both models over it. */
+/* One chip with its buffers, both models over it, and what is asked of them. */
 #ifndef WORLD_H
 #define WORLD_H
 
 #include "plain.h"
 #include <string.h>
+
+enum kind { READ, WRITE, LOOK };
+
+struct access {
+    uint32_t target, offset;
+    enum kind kind;
+    uint32_t enables, word; /* a read and a look have no word */
+};
 
 struct world {
     struct pm_state state;
@@ -25,15 +33,41 @@ static inline uint32_t open_plain(struct world *w, uint32_t width, uint32_t heig
     return plain_open(&w->state, width, height, w->memory, w->memory_length, w->picture, w->picture_length);
 }
 
-static inline struct plain_answer access_proved(struct world *w, const struct pm_access *a) {
-    struct pm_answer r = pm_access(w->state, *a, w->memory, w->memory_length, w->picture, w->picture_length);
+static inline struct plain_answer read_proved(struct world *w, const struct access *a) {
+    struct pm_answer r = pm_read(w->state, a->target, a->offset, a->enables, w->memory, w->memory_length, w->picture, w->picture_length);
     struct plain_answer n = { r.status, r.word, r.known, r.changed };
     w->state = r.state;
     return n;
 }
 
-static inline struct plain_answer access_plain(struct world *w, const struct pm_access *a) {
-    return plain_access(&w->state, a, w->memory, w->memory_length, w->picture, w->picture_length);
+static inline struct plain_answer write_proved(struct world *w, const struct access *a) {
+    struct pm_answer r = pm_write(w->state, a->target, a->offset, a->enables, a->word, w->memory, w->memory_length, w->picture, w->picture_length);
+    struct plain_answer n = { r.status, r.word, r.known, r.changed };
+    w->state = r.state;
+    return n;
+}
+
+static inline struct plain_answer look_proved(const struct world *w, const struct access *a) {
+    struct pm_looked r = pm_look(w->state, a->target, a->offset, a->enables, w->memory, w->memory_length, w->picture, w->picture_length);
+    struct plain_answer n = { r.status, r.word, r.known, r.changed };
+    return n;
+}
+
+static inline struct plain_answer ask_proved(struct world *w, const struct access *a) {
+    switch (a->kind) {
+    case WRITE: return write_proved(w, a);
+    case LOOK: return look_proved(w, a);
+    default: return read_proved(w, a);
+    }
+}
+
+static inline struct plain_answer ask_plain(struct world *w, const struct access *a) {
+    switch (a->kind) {
+    case WRITE:
+        return plain_write(&w->state, a->target, a->offset, a->enables, a->word, w->memory, w->memory_length, w->picture, w->picture_length);
+    case LOOK: return plain_look(&w->state, a->target, a->offset, a->enables, w->memory, w->memory_length, w->picture_length);
+    default: return plain_read(&w->state, a->target, a->offset, a->enables, w->memory, w->memory_length, w->picture_length);
+    }
 }
 
 static inline int same_answers(const struct plain_answer *a, const struct plain_answer *b) {
@@ -54,7 +88,7 @@ static inline uint32_t random_word(uint64_t *seed) {
     return (uint32_t)(*seed >> 16);
 }
 
-/* an access that is likely to lead somewhere, on a memory of some bytes */
-struct pm_access random_access(uint64_t *seed, size_t memory_length);
+/* a read or a write that is likely to lead somewhere, on a memory of some bytes */
+struct access random_access(uint64_t *seed, size_t memory_length);
 
 #endif

@@ -1,4 +1,5 @@
-/* A small host of the model: opens a panel, loads a palette, draws bars through an aperture, and looks at what a program should never take for zero. */
+/* A small host of the model: opens a panel, loads a palette, draws bars through an aperture, shows what a program should never take for zero, and watches
+ * palette data without stepping it. */
 #include "reefstencil.h"
 #include <stdio.h>
 
@@ -8,8 +9,10 @@
 #define HEIGHT 5u
 #define STRIDE 5u
 
+#define DOTS (WIDTH * HEIGHT)
+
 static uint8_t memory[8 * STRIDE * HEIGHT];
-static uint32_t picture[WIDTH * HEIGHT];
+static uint32_t picture[DOTS];
 static struct pm_state state;
 
 static const char *const meanings[] = {
@@ -17,20 +20,21 @@ static const char *const meanings[] = {
     "nothing is there", "the register has no such direction", "the aperture's mode is not served", "the panel is out of range", "the memory is out of range"
 };
 
-/* The one way into the chip: hand the state in, take the new one from the answer. */
-static struct pm_answer run(struct pm_access a) {
-    struct pm_answer r = pm_access(state, a, memory, sizeof memory, picture, sizeof picture / sizeof *picture);
+/* The three ways into the chip, with all lanes. Of a write and of a read the new state is taken from the answer .. */
+static struct pm_answer write_word(uint32_t target, uint32_t offset, uint32_t word) {
+    struct pm_answer r = pm_write(state, target, offset, 15, word, memory, sizeof memory, picture, DOTS);
     state = r.state;
     return r;
 }
 
-static struct pm_answer write_word(uint32_t target, uint32_t offset, uint32_t word) {
-    return run((struct pm_access){ .target = target, .offset = offset, .write = 1, .enables = 15, .word = word });
+static struct pm_answer read_word(uint32_t target, uint32_t offset) {
+    struct pm_answer r = pm_read(state, target, offset, 15, memory, sizeof memory, picture, DOTS);
+    state = r.state;
+    return r;
 }
 
-static struct pm_answer read_word(uint32_t target, uint32_t offset) {
-    return run((struct pm_access){ .target = target, .offset = offset, .write = 0, .enables = 15 });
-}
+/* .. and a look has none. */
+static struct pm_looked look_at(uint32_t target, uint32_t offset) { return pm_look(state, target, offset, 15, memory, sizeof memory, picture, DOTS); }
 
 /* An indirect register of the RAMDAC: its index goes to RDPaletteWriteAddress (4000h), its byte to RDIndexedData (4050h). */
 static void write_index(uint32_t index, uint32_t byte) {
@@ -51,13 +55,30 @@ static void print_bits(uint32_t word, uint32_t known) {
     for (int i = 7; i >= 0; i--) putchar(known >> i & 1 ? (word >> i & 1 ? '1' : '0') : '?');
 }
 
+static const char *const components[] = { "red", "green", "blue" };
+
 static void print_entry(const char *name, uint32_t entry) {
-    static const char *const components[] = { "red", "green", "blue" };
     printf("entry %u, %s:", (unsigned)entry, name);
     write_word(PM_REGION_0, 0x4018, entry); /* RDPaletteReadAddress */
     for (int i = 0; i < 3; i++) {
         struct pm_answer r = read_word(PM_REGION_0, 0x4008);
         printf(" %s ", components[i]);
+        print_bits(r.word, r.known);
+    }
+    putchar('\n');
+}
+
+/* A watch window on palette data, which looks three times before each read: both show the same, and the reads go on as if nobody had looked. */
+static void print_watched(const char *name, uint32_t entry) {
+    printf("entry %u, %s, looked at and read:", (unsigned)entry, name);
+    write_word(PM_REGION_0, 0x4018, entry);
+    for (int i = 0; i < 3; i++) {
+        struct pm_looked shown = { 0 };
+        for (int k = 0; k < 3; k++) shown = look_at(PM_REGION_0, 0x4008);
+        struct pm_answer r = read_word(PM_REGION_0, 0x4008);
+        printf(" %s ", components[i]);
+        print_bits(shown.word, shown.known);
+        putchar(' ');
         print_bits(r.word, r.known);
     }
     putchar('\n');
@@ -101,7 +122,7 @@ static void print_picture(const char *title) {
 int main(void) {
     static const uint32_t colours[8] = { 0xFFFFFF, 0xFFFF00, 0x00FFFF, 0x00FF00, 0xFF00FF, 0xFF0000, 0x0000FF, 0x000000 };
 
-    struct pm_opened o = pm_open(WIDTH, HEIGHT, memory, sizeof memory, picture, sizeof picture / sizeof *picture);
+    struct pm_opened o = pm_open(WIDTH, HEIGHT, memory, sizeof memory, picture, DOTS);
     printf("opening %u by %u with %u bytes: %u, %s\n", WIDTH, HEIGHT, (unsigned)sizeof memory, (unsigned)o.status, meanings[o.status]);
     if (o.status != PM_DONE) return 1;
     state = o.state;
@@ -126,6 +147,7 @@ int main(void) {
     /* The two look alike to a program that reads only the word. */
     print_entry("black", 7);
     print_entry("never stored", 8);
+    print_watched("yellow", 1);
 
     print_read("memory beyond its end", PM_APERTURE_ONE, sizeof memory);
     write_word(PM_REGION_0, 0x4000, 0x20); /* RDPixelClockA1 is written only */

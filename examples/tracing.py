@@ -1,6 +1,7 @@
 """The lines of a trace as a driver writes them, and what each range of them does.
 
-A line is `r|w TARGET OFFSET ENABLES [WORD]`. The sections named here and in the
+A line is `r|w TARGET OFFSET ENABLES [WORD]`, and for explain `l TARGET OFFSET
+ENABLES`, a look. The sections named here and in the
 scripts that use this are those of the Permedia 2 Hardware Reference Manual,
 issue 7.
 """
@@ -25,6 +26,10 @@ def step(text):
 
 def read(target, offset, enables=15):
     lines.append(f"r {target} {offset:x} {enables:x}")
+
+
+def look(target, offset, enables=15):
+    lines.append(f"l {target} {offset:x} {enables:x}")
 
 
 def write(target, offset, word, enables=15):

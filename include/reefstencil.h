@@ -1,17 +1,18 @@
 /* Reefstencil for C: a register-level model of the 3Dlabs Permedia 2, proved in Rattle.
  *
- * Two functions are the model. Both are total: whatever numbers they are handed, they end with an answer or with one numbered refusal.
- * The caller keeps three things and hands them in at each call: the state (by value; a new one comes back), the memory and the picture.
+ * Four functions are the model: pm_open, pm_read, pm_write and pm_look. All are total: whatever numbers they are handed, they end with an answer or
+ * with one numbered refusal. The caller keeps three things and hands them in at each call: the state (by value; a new one comes back from all but a
+ * look), the memory and the picture. A read steps the palette's component as the chip's does; a look gives the same answer and alters nothing.
  * Nothing else is kept anywhere, so that a state can be copied, stored and gone back to, and two chips never meet.
  *
  * The archive that `rt staticlib reefstencil` writes, target/staticlib/libreefstencil.a, is for x86-64 Linux (System V calls). It calls nothing
  * but memcpy, memmove and memset.
  *
  * What C must see to, since nothing here can test it:
- *  - memory points to memory_length bytes and picture to picture_length words that can be read and written. A pointer is never null, also where
- *    its length is 0, and picture is aligned for uint32_t;
+ *  - memory points to memory_length bytes and picture to picture_length words that can be read and, for pm_open and pm_write, written. A pointer is
+ *    never null, also where its length is 0, and picture is aligned for uint32_t;
  *  - memory and picture do not overlap, and nobody else writes them, or the state, during a call.
- * Any state and any access may be handed in: what is not a state is refused as 1.
+ * Any state and any numbers may be handed in: what is not a state is refused as 1.
  *
  * Numbers such as 4000h in this file are offsets in the manual (Permedia 2 Hardware Reference, issue 7); 3.4.1 is a section of it. */
 #ifndef REEFSTENCIL_H
@@ -31,8 +32,8 @@ extern "C" {
 
 /* ---- the status of an answer ---- */
 
-/* An access is tested in the order 1 to 7, an opening in the order 8, 9, 2. A refused access alters nothing, and its answer is zeros with the
- * state as it was handed in; a refused opening leaves both buffers, and gives a state of 0 by 0 dots. */
+/* A read, a write and a look are tested in the order 1 to 7, an opening in the order 8, 9, 2. A refused read, write or look alters nothing, and its answer
+ * is zeros, of a read or a write with the state as it was handed in; a refused opening leaves both buffers, and gives a state of 0 by 0 dots. */
 enum pm_status {
     PM_DONE = 0,
     PM_NO_STATE = 1,      /* not a state */
@@ -46,23 +47,18 @@ enum pm_status {
     PM_BAD_MEMORY = 9     /* opening: memory no multiple of 8 from 8 to 8,388,608 bytes */
 };
 
-/* ---- an access ---- */
+/* ---- what a read, a write and a look name ---- */
 
-/* Through an aperture, memory byte offset + i (i from 0 to 3) is exchanged with lane i of the word. If bits 0 and 1 of the aperture's register hold the number 1 (byte
- * swapped) it is lane 3 - i, if they hold 2 (half-word swapped) lane (i + 2) % 4. That lane's enable decides, in a read as in a write. */
+/* The target is one of these; the offset counts bytes from its start and is a multiple of four; the enables are 0 to 15: bit i for lane i, which is bits
+ * 8i to 8i + 7 of the word.
+ *
+ * Through an aperture, memory byte offset + i (i from 0 to 3) is exchanged with lane i of the word. If bits 0 and 1 of the aperture's register hold the number 1 (byte
+ * swapped) it is lane 3 - i, if they hold 2 (half-word swapped) lane (i + 2) % 4. That lane's enable decides, in a read or a look as in a write. */
 enum pm_target {
     PM_REGION_0 = 0,     /* the registers */
     PM_APERTURE_ONE = 1, /* memory, in the mode of register 50h */
     PM_APERTURE_TWO = 2, /* memory, in the mode of register 58h */
     PM_CONFIGURATION = 3 /* the PCI configuration header */
-};
-
-struct pm_access {
-    uint32_t target;  /* enum pm_target */
-    uint32_t offset;  /* in bytes from the start of the target; a multiple of four */
-    uint32_t write;   /* 0: a read; any other number: a write */
-    uint32_t enables; /* byte enables, 0 to 15: bit i for lane i, which is bits 8i to 8i + 7 of word */
-    uint32_t word;    /* what is written; not looked at by a read */
 };
 
 /* ---- the state ---- */
@@ -162,7 +158,7 @@ enum pm_row {
 struct pm_dac {
     uint8_t address;   /* a palette entry, or an index */
     uint8_t known;     /* which bits of address are known; the others are 0 in it. FFh once an address was set */
-    uint8_t component; /* the next palette data access is for 0 red, 1 green, 2 blue */
+    uint8_t component; /* the next read, write or look of palette data is for 0 red, 1 green, 2 blue */
     uint8_t staged;    /* palette bytes written and not stored yet: 1 red; 2 red and green; any other number: none */
     uint8_t red;       /* the staged red .. */
     uint8_t green;     /* .. and green, as they will be stored */
@@ -190,17 +186,26 @@ struct pm_state {
 
 /* ---- what comes back ---- */
 
+/* of a read and of a write */
 struct pm_answer {
     uint32_t status;  /* enum pm_status, 0 to 7 */
     uint32_t word;    /* what a read saw. A bit counts only where known has it set; it is 0 everywhere else */
     uint32_t known;   /* which bits of word are known; 0 after a write */
-    uint32_t changed; /* how many words of the picture differ before and after */
+    uint32_t changed; /* how many words of the picture differ before and after; 0 after a read */
     struct pm_state state; /* the state from now on; after a refusal the one that was handed in */
+};
+
+/* of a look: what the read would answer. There is no new state */
+struct pm_looked {
+    uint32_t status;
+    uint32_t word;
+    uint32_t known;
+    uint32_t changed; /* 0, as a read's */
 };
 
 struct pm_opened {
     uint32_t status;       /* enum pm_status: 0, 8, 9 or 2 */
-    struct pm_state state; /* the reset state; after a refusal a state of 0 by 0 dots, with which every access is refused as 1 */
+    struct pm_state state; /* the reset state; after a refusal a state of 0 by 0 dots, with which every read, write and look is refused as 1 */
 };
 
 /* ---- the picture ---- */
@@ -212,26 +217,31 @@ struct pm_opened {
 #define PM_DOT_NEVER 0x04000000u    /* the dot's palette entry was never stored */
 #define PM_DOT_UNPLACED 0x05000000u /* ScreenBase, ScreenStride or RDPixelMask has an unknown bit */
 
-/* ---- the two functions ---- */
+/* ---- the four functions ---- */
 
 /* A buffer is a pointer and then its length: memory in bytes, picture in words. */
 
 /* Opens a panel. Fills picture, which must have width * height words, with PM_DOT_OFF, and leaves memory as it is. */
 struct pm_opened pm_open(uint32_t width, uint32_t height, uint8_t *memory, size_t memory_length, uint32_t *picture, size_t picture_length);
 
-/* One access. Memory and picture have the lengths of the opening. Writes exactly those dots whose word the access changes. */
-struct pm_answer pm_access(struct pm_state s, struct pm_access a, uint8_t *memory, size_t memory_length, uint32_t *picture, size_t picture_length);
+/* For these three, memory and picture have the lengths of the opening. */
+
+/* A read. Of the state it alters the palette's component, address and staged bytes, and these only where it reads palette data. */
+struct pm_answer pm_read(struct pm_state s, uint32_t target, uint32_t offset, uint32_t enables, const uint8_t *memory, size_t memory_length,
+    const uint32_t *picture, size_t picture_length);
+
+/* A write. Writes exactly those dots whose word it changes. */
+struct pm_answer pm_write(struct pm_state s, uint32_t target, uint32_t offset, uint32_t enables, uint32_t word, uint8_t *memory, size_t memory_length,
+    uint32_t *picture, size_t picture_length);
+
+/* A look: exactly what pm_read with the same arguments would answer, its refusals too, and nothing altered. For watch windows and debuggers: looked at as
+ * often as you like, palette data stays at its component and a load under way is not disturbed. */
+struct pm_looked pm_look(struct pm_state s, uint32_t target, uint32_t offset, uint32_t enables, const uint8_t *memory, size_t memory_length,
+    const uint32_t *picture, size_t picture_length);
 
 /* ---- the layout, tested where this file is compiled. tests/layout tests it against the library ---- */
 
 PM_ASSERT(sizeof(uint8_t) == 1 && sizeof(uint32_t) == 4 && sizeof(size_t) == 8 && sizeof(void *) == 8);
-
-PM_ASSERT(sizeof(struct pm_access) == 20 && PM_ALIGN(struct pm_access) == 4);
-PM_ASSERT(offsetof(struct pm_access, target) == 0);
-PM_ASSERT(offsetof(struct pm_access, offset) == 4);
-PM_ASSERT(offsetof(struct pm_access, write) == 8);
-PM_ASSERT(offsetof(struct pm_access, enables) == 12);
-PM_ASSERT(offsetof(struct pm_access, word) == 16);
 
 PM_ASSERT(sizeof(struct pm_dac) == 6 && PM_ALIGN(struct pm_dac) == 1);
 PM_ASSERT(offsetof(struct pm_dac, address) == 0);
@@ -263,6 +273,12 @@ PM_ASSERT(offsetof(struct pm_answer, word) == 4);
 PM_ASSERT(offsetof(struct pm_answer, known) == 8);
 PM_ASSERT(offsetof(struct pm_answer, changed) == 12);
 PM_ASSERT(offsetof(struct pm_answer, state) == 16);
+
+PM_ASSERT(sizeof(struct pm_looked) == 16 && PM_ALIGN(struct pm_looked) == 4);
+PM_ASSERT(offsetof(struct pm_looked, status) == 0);
+PM_ASSERT(offsetof(struct pm_looked, word) == 4);
+PM_ASSERT(offsetof(struct pm_looked, known) == 8);
+PM_ASSERT(offsetof(struct pm_looked, changed) == 12);
 
 PM_ASSERT(sizeof(struct pm_opened) == 1684 && PM_ALIGN(struct pm_opened) == 4);
 PM_ASSERT(offsetof(struct pm_opened, status) == 0);

@@ -6,7 +6,9 @@
 #   net.sh FOLDER        the breaks of rules
 #   net.sh FOLDER all    single wrong bits of the register tables as well
 #
-# The first line of the answers names the panel that a trace is run on.
+# The first line of the answers names the panel that a trace is run on. A file
+# NAME.form with the word explain says that the answers are explain's; without
+# such a file they are the trace program's.
 set -eu
 if [ $# -lt 1 ] || [ $# -gt 2 ]; then
     echo "usage: net.sh FOLDER [all]" >&2

@@ -1,5 +1,5 @@
 //! Deliberate mistakes. Each one breaks a single rule of the model (or of the
-//! trace program), so that traces can be judged by what they notice.
+//! programs that read lines), so that traces can be judged by what they notice.
 //!
 //! Numbers 1 to 999 are mistakes in rules; from 1001 on, each number is one
 //! wrong bit, direction or presence in one of the three tables.
@@ -289,6 +289,60 @@ rules! {
     SwapCodeAlone: "swap codes 1 and 2 count as standard while any other control bit is set",
     SwapWriteClears: "a swapped write stores zero where the lane is not enabled",
     SwapReadPacked: "a swapped read moves the bytes of enabled lanes down to the lowest lanes",
+
+    // Reads, writes and looks, 02, C-12. First what a look may not alter.
+    LookIsRead: "a look at palette data steps and drops staged bytes as a read does",
+    LookAdvances: "a look at palette data advances the component, and keeps staged bytes",
+    LookAdvancesAnyLane: "a look at palette data without lane 0 advances the component",
+    LookDropsStage: "a look at palette data drops staged bytes, and does not advance",
+    LookDropsAnyStage: "every look drops staged bytes",
+    LookMovesAddress: "a look at indexed data moves the address on",
+    LookAddressResets: "a look at an address makes the component 0",
+    LookFixes: "a look at the subsystem numbers fixes them",
+    LookRedraws: "a look draws the picture afresh",
+    LookStandsForRead: "the palette data read after a look at palette data does not step",
+    // What a look answers.
+    LookAnswersNext: "a look at palette data answers from after stepping",
+    LookAnswersLastRead: "a look answers what the last read answered",
+    LookRedOnly: "a look at palette data shows red whatever component is next",
+    LookBefore: "a look at palette data shows the component before the next one",
+    LookNeverStored: "a look at an entry never stored shows known zeros",
+    LookEightBits: "a look at palette data shows eight bits in either width",
+    LookShowsReset: "a look at a register shows its reset",
+    LookUnknownKnown: "a look shows an unknown bit as a known zero",
+    LookAllLanes: "a look shows all four lanes",
+    LookPlain: "a look at memory is not swapped",
+    LookRefusedKnown: "a refused look answers zero as known",
+    // How a look is refused.
+    LookAnyState: "a look is not refused as 1",
+    LookAnyLength: "a look does not ask how long the picture is",
+    LookHighEnables: "a look cuts enables above 15 to four bits instead of refusing them",
+    LookFourBeforeThree: "a look tests 4 before 3",
+    LookOffsetRounded: "a look rounds an offset that is no multiple of four down",
+    LookUnknownAddress: "a look takes an unknown address for 0",
+    LookAbsentIndex: "a look at an absent index shows zero",
+    LookBlankRefused: "a look at a header offset without a register is refused as 5",
+    LookWriteOnly: "a look shows the write-only clock parameters",
+    LookReadOnlyRefused: "a look at a read-only register is refused as 6",
+    LookPaletteRefused: "a look at palette data is refused as 6",
+    LookCodeThree: "a look through swap code 3 is served",
+    LookAnyMode: "a look is never refused as 7",
+    LookSevenBeforeFive: "a look tests 7 before 5",
+    // Reads and writes apart.
+    ReadIsLook: "a palette data read alters nothing, as a look",
+    ReadAnswersNext: "a palette data read answers from after stepping",
+    ReadRefusedAsWrite: "a read is refused where a write has no direction",
+    WriteRefusedAsRead: "a write is refused where a read has no direction",
+    ReadAnyLength: "a read does not ask how long the picture is",
+    WriteAnswersRead: "a write answers what a read after it would",
+    // Lines.
+    LookInTrace: "the trace program takes l lines",
+    LookUpper: "L is taken for l",
+    LookWithWord: "a look with a word is taken",
+    LookBad: "explain calls l lines bad",
+    ExplainAfter: "explain says where a line leads by the state after it",
+    ExplainZeros: "explain shows a digit with an unknown bit as 0",
+    ExplainPartDigits: "explain hides a digit only where none of its bits is known",
 }
 
 /// One of the three tables, with the row in it.

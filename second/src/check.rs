@@ -1,8 +1,11 @@
-//! Checks one access against a picture drawn afresh and plain counts. The
-//! drawing here is a second one, by another way, and knows no breaks.
+//! Checks one read or write against a picture drawn afresh and plain counts, and
+//! one look against a read made on a copy. The drawing here is a second one, by
+//! another way, and knows no breaks.
+
+use std::fmt::Debug;
 
 use crate::bits::lanes;
-use crate::model::{Access, Answer, Model, APERTURE_ONE, APERTURE_TWO, DONE};
+use crate::model::{Act, Answer, Asked, At, Model, Seen, DONE};
 use crate::state::{Entry, State};
 
 /// Offset of a register in region 0 to the word held there.
@@ -52,51 +55,118 @@ fn colour(entry: &Entry) -> u32 {
     }
 }
 
-/// Carries out an access and says what is wrong with its outcome, if anything.
-pub fn access(
+/// State, memory and picture, as they were.
+struct Old {
+    state: State,
+    memory: Vec<u8>,
+    picture: Vec<u32>,
+}
+
+impl Old {
+    fn of(state: &State, memory: &[u8], picture: &[u32]) -> Old {
+        Old {
+            state: state.clone(),
+            memory: memory.to_vec(),
+            picture: picture.to_vec(),
+        }
+    }
+
+    fn same(&self, state: &State, memory: &[u8], picture: &[u32]) -> bool {
+        self.state == *state && self.memory == memory && self.picture == picture
+    }
+}
+
+/// Whether something is wrong, with what was asked and answered.
+fn verdict(wrong: Option<String>, asked: &Asked, answer: &dyn Debug) -> Result<(), String> {
+    match wrong {
+        Some(text) => Err(format!("{text}: {asked:?} gave {answer:?}")),
+        None => Ok(()),
+    }
+}
+
+/// Reads, and says what is wrong with the outcome, if anything.
+pub fn read(
+    model: &Model,
+    state: &mut State,
+    memory: &[u8],
+    picture: &[u32],
+    at: At,
+) -> (Answer, Result<(), String>) {
+    let old = Old::of(state, memory, picture);
+    let answer = model.read(state, memory, picture, at);
+    let asked = Asked::Read(at);
+    let wrong = fault(&old, state, memory, picture, &asked, &answer);
+    (answer, verdict(wrong, &asked, &answer))
+}
+
+/// Writes, and says what is wrong with the outcome, if anything.
+pub fn write(
     model: &Model,
     state: &mut State,
     memory: &mut [u8],
     picture: &mut [u32],
-    asked: &Access,
+    at: At,
+    word: u32,
 ) -> (Answer, Result<(), String>) {
-    let old_state = state.clone();
-    let old_memory = memory.to_vec();
-    let old_picture = picture.to_vec();
-    let answer = model.access(state, memory, picture, asked);
-    let wrong = fault(
-        &old_state,
-        &old_memory,
-        &old_picture,
-        state,
-        memory,
-        picture,
-        asked,
-        &answer,
-    );
-    let verdict = match wrong {
-        Some(text) => Err(format!("{text}: {asked:?} gave {answer:?}")),
-        None => Ok(()),
-    };
-    (answer, verdict)
+    let old = Old::of(state, memory, picture);
+    let answer = model.write(state, memory, picture, at, word);
+    let asked = Asked::Write(at, word);
+    let wrong = fault(&old, state, memory, picture, &asked, &answer);
+    (answer, verdict(wrong, &asked, &answer))
 }
 
-#[allow(clippy::too_many_arguments)]
+/// Looks, and says what is wrong with the outcome, if anything. State and
+/// picture are lent to be altered for the sake of breaks only.
+pub fn look(
+    model: &Model,
+    state: &mut State,
+    memory: &[u8],
+    picture: &mut [u32],
+    at: At,
+) -> (Seen, Result<(), String>) {
+    let old = Old::of(state, memory, picture);
+    let seen = model.look(state, memory, picture, at);
+    model.spoil(state, memory, picture, at, seen);
+    let mut wrong = look_fault(model, &old, at, &seen);
+    if !old.same(state, memory, picture) {
+        wrong = Some("a look alters something".to_string());
+    }
+    (seen, verdict(wrong, &Asked::Look(at), &seen))
+}
+
+/// What is wrong with the answer of a look, by a read made on a copy.
+fn look_fault(model: &Model, old: &Old, at: At, seen: &Seen) -> Option<String> {
+    if seen.status != DONE && (seen.word != 0 || seen.known != 0) {
+        return Some("a refused look answers more than its status".to_string());
+    }
+    if seen.word & !seen.known != 0 || seen.known & !lanes(at.enables) != 0 {
+        return Some("a look shows what it does not know".to_string());
+    }
+    // A model of its own, so that breaks that remember something are not led
+    // astray by this read.
+    let reader = Model::with(model.broken);
+    let mut copy = old.state.clone();
+    let answer = reader.read(&mut copy, &old.memory, &old.picture, at);
+    if (answer.status, answer.word, answer.known) != (seen.status, seen.word, seen.known) {
+        return Some(format!("a read answers {answer:?}"));
+    }
+    None
+}
+
 fn fault(
-    old_state: &State,
-    old_memory: &[u8],
-    old_picture: &[u32],
+    old: &Old,
     state: &State,
     memory: &[u8],
     picture: &[u32],
-    asked: &Access,
+    asked: &Asked,
     answer: &Answer,
 ) -> Option<String> {
+    let (at, writes) = (asked.at(), asked.act() == Act::Write);
     if answer.status != DONE {
         if answer.word != 0 || answer.known != 0 || answer.changed != 0 {
             return Some("a refused access answers more than its status".to_string());
         }
-        if state != old_state || memory != old_memory || picture != old_picture {
+        if !old.same(state, memory, picture) {
             return Some("a refused access alters something".to_string());
         }
         return None;
@@ -106,21 +176,20 @@ fn fault(
     if !state.is_state(&sound.tables, &sound.broken) {
         return Some("what comes out is no state".to_string());
     }
-    let to_memory = asked.target == APERTURE_ONE || asked.target == APERTURE_TWO;
-    if memory != old_memory && !(to_memory && asked.write) {
+    if memory != old.memory && !(at.is_memory() && writes) {
         return Some("memory is altered without an aperture write".to_string());
     }
-    if state != old_state && to_memory {
+    if *state != old.state && at.is_memory() {
         return Some("an aperture access alters the state".to_string());
     }
-    if asked.write && (answer.word != 0 || answer.known != 0) {
+    if writes && (answer.word != 0 || answer.known != 0) {
         return Some("a write answers a word".to_string());
     }
-    if answer.word & !answer.known != 0 || answer.known & !lanes(asked.enables) != 0 {
+    if answer.word & !answer.known != 0 || answer.known & !lanes(at.enables) != 0 {
         return Some("a read shows what it does not know".to_string());
     }
 
-    let before = draw(old_state, old_memory);
+    let before = draw(&old.state, &old.memory);
     let after = draw(state, memory);
     if picture.len() != before.len() || picture.len() != after.len() {
         return Some("a picture of the wrong length is taken".to_string());
@@ -128,7 +197,7 @@ fn fault(
     let mut differing = 0;
     for place in 0..picture.len() {
         let expected = if before[place] == after[place] {
-            old_picture[place]
+            old.picture[place]
         } else {
             after[place]
         };
@@ -138,11 +207,11 @@ fn fault(
                 picture[place]
             ));
         }
-        if picture[place] != old_picture[place] {
+        if picture[place] != old.picture[place] {
             differing += 1;
         }
     }
-    if old_picture == before && picture != after {
+    if old.picture == before && picture != after {
         return Some("the picture is not the one drawn afresh".to_string());
     }
     if answer.changed != differing {

@@ -1,13 +1,18 @@
 //! Random traces. A trace is a row of scenes; each scene plays one part of the
-//! chip, most of them with a picture that is really drawn.
+//! chip, most of them with a picture that is really drawn. Where looks are asked
+//! for (02, C-12) they stand among the lines of every scene, and have scenes of
+//! their own; whatever they need of the random numbers is drawn only then, since
+//! traces without looks are stored.
 
+use crate::breaks::Break;
+use crate::model::Asked;
 use crate::offsets::{
     BYPASS_WRITE_MASK, INDEXED_DATA, PALETTE_DATA, PALETTE_READ_ADDRESS, PALETTE_WRITE_ADDRESS,
     PIXEL_MASK, SCREEN_BASE, SCREEN_BASE_RIGHT, SCREEN_STRIDE, VIDEO_CONTROL,
 };
 use crate::rng::Rng;
 use crate::tables::REGION0;
-use crate::trace::Setup;
+use crate::trace::{self, Setup};
 
 const APERTURE_CONTROLS: [u32; 2] = [0x50, 0x58];
 
@@ -38,7 +43,7 @@ const MISC_CONTROL: u8 = 0x1e;
 
 /// A trace of so many lines, each with its newline; every second seed leaves
 /// the last newline out.
-pub fn trace(seed: u64, lines: usize, setup: Setup) -> Vec<u8> {
+pub fn trace(seed: u64, lines: usize, setup: Setup, looks: bool) -> Vec<u8> {
     let mut generator = Generator {
         rng: Rng::new(seed),
         setup,
@@ -58,6 +63,13 @@ pub fn trace(seed: u64, lines: usize, setup: Setup) -> Vec<u8> {
         stride_set: false,
         poking: false,
         whole: seed % 6 == 5 && lines >= 1500,
+        looks,
+        looking: false,
+        bad_looks: Vec::new(),
+        look_registers: Turn::new(REGION0.len(), seed, 11),
+        look_words: Turn::new(64, seed, 13),
+        look_indices: Turn::new(256, seed, 17),
+        look_present: Turn::new(PRESENT.len(), seed, 7),
     };
     generator.new_pool();
     generator.play();
@@ -119,6 +131,18 @@ struct Generator {
     poking: bool,
     /// Whether the whole palette is loaded; every sixth seed does.
     whole: bool,
+    /// Whether there are looks among the lines.
+    looks: bool,
+    /// Whether looks are just being put in.
+    looking: bool,
+    /// The kinds of bad looks still to come before each comes again.
+    bad_looks: Vec<u32>,
+    /// What looks visit in turn: registers, header words, indices, indices that
+    /// exist.
+    look_registers: Turn,
+    look_words: Turn,
+    look_indices: Turn,
+    look_present: Turn,
 }
 
 type Scene = fn(&mut Generator);
@@ -155,8 +179,27 @@ const LIVE: &[(u32, Scene)] = &[
     (6, Generator::others_change_nothing),
 ];
 
+/// Scenes of looks.
+const LOOKS: &[Scene] = &[
+    Generator::look_at_load,
+    Generator::look_at_load,
+    Generator::look_at_entries,
+    Generator::look_at_registers,
+    Generator::look_at_header,
+    Generator::look_at_indices,
+    Generator::look_at_memory,
+    Generator::look_refused,
+    Generator::look_malformed,
+];
+
+/// How many kinds of bad looks there are.
+const BAD_LOOKS: u32 = 18;
+
 impl Generator {
     fn play(&mut self) {
+        if self.looks {
+            self.look_before_address();
+        }
         let mut openings: Vec<Scene> = vec![
             Generator::read_everything,
             Generator::read_indices,
@@ -176,6 +219,9 @@ impl Generator {
         // to a live picture between them; then scenes by weight.
         let mut scenes: Vec<Scene> = QUIET.iter().map(|s| s.1).collect();
         self.rng.shuffle(&mut scenes);
+        if self.looks {
+            self.mix_in_looks(&mut scenes);
+        }
         if self.whole {
             // The sweeps still find room if they come before it.
             let first: [Scene; 5] = [
@@ -207,6 +253,16 @@ impl Generator {
         }
     }
 
+    /// Puts each scene of looks once among those that come first, every second
+    /// one of them. Scenes are taken from the end.
+    fn mix_in_looks(&mut self, scenes: &mut Vec<Scene>) {
+        let mut looks = LOOKS.to_vec();
+        self.rng.shuffle(&mut looks);
+        for (number, scene) in looks.into_iter().enumerate() {
+            scenes.insert(scenes.len() - 2 * number, scene);
+        }
+    }
+
     /// Whether the stride counts. What depends on this may not touch the
     /// traces of panels with one row, which are stored.
     fn rows(&self) -> bool {
@@ -214,6 +270,9 @@ impl Generator {
     }
 
     fn scene_by_weight(&mut self) -> Scene {
+        if self.looks && self.rng.chance(1, 5) {
+            return self.rng.pick(LOOKS);
+        }
         if self.rows() && self.rng.chance(1, 6) {
             return Generator::live_stride;
         }
@@ -232,10 +291,18 @@ impl Generator {
 
     /// One line, and now and then a poke after it.
     fn line(&mut self, line: Vec<u8>) {
+        if self.looks && !self.looking {
+            self.looking = true;
+            self.look_first(&line);
+            self.looking = false;
+        }
         if self.lines.len() >= self.limit {
             return;
         }
         self.lines.push(line);
+        if self.looking {
+            return;
+        }
         if !self.poking && self.rng.chance(1, 6) {
             self.poking = true;
             self.poke();
@@ -1892,5 +1959,371 @@ impl Generator {
                 self.write(target, offset, enables, word);
             }
         }
+    }
+
+    // ----- looks -----
+
+    fn look(&mut self, target: u32, offset: u32, enables: u32) {
+        let offset = self.digits(offset);
+        let enables = self.digits(enables);
+        self.push_look(format!("l {target} {offset} {enables}").into_bytes());
+    }
+
+    /// A line of a look, before which no other look is put.
+    fn push_look(&mut self, line: Vec<u8>) {
+        let looking = self.looking;
+        self.looking = true;
+        self.line(line);
+        self.looking = looking;
+    }
+
+    /// A look, and often the same look or the same read at once after it.
+    fn look_and_read(&mut self, target: u32, offset: u32, enables: u32) {
+        self.look(target, offset, enables);
+        if self.rng.chance(1, 4) {
+            self.look(target, offset, enables);
+        }
+        if self.rng.chance(1, 2) {
+            let line = self.access(false, target, offset, enables, 0);
+            self.push_look(line.into_bytes());
+        }
+    }
+
+    /// Looks that come before a line: at what it reads, at palette data around
+    /// palette accesses, or anywhere.
+    fn look_first(&mut self, line: &[u8]) {
+        let asked = trace::parse(line, false, &Break::Nothing);
+        let ramdac = [
+            PALETTE_DATA,
+            PALETTE_WRITE_ADDRESS,
+            PALETTE_READ_ADDRESS,
+            INDEXED_DATA,
+        ];
+        let near_palette = asked.is_some_and(|asked| {
+            let at = asked.at();
+            ramdac.iter().any(|offset| at.is_register(*offset))
+        });
+        match asked {
+            Some(Asked::Read(_)) if self.rng.chance(1, 5) => {
+                let mut same = line.to_vec();
+                same[0] = b'l';
+                self.push_look(same.clone());
+                if self.rng.chance(1, 4) {
+                    self.push_look(same);
+                }
+            }
+            _ if near_palette && self.rng.chance(1, 6) => {
+                let times = self.rng.pick(&[1, 1, 2, 3]);
+                for _ in 0..times {
+                    self.look_at_palette();
+                }
+            }
+            _ if self.rng.chance(1, 11) => self.look_anywhere(),
+            _ => {}
+        }
+    }
+
+    fn look_at_palette(&mut self) {
+        let enables = match self.rng.below(12) {
+            0 => self.no_lane_zero(),
+            1 => self.high_enables(),
+            _ => self.lane_zero(),
+        };
+        self.look(0, PALETTE_DATA, enables);
+    }
+
+    fn look_anywhere(&mut self) {
+        let enables = self.enables();
+        match self.rng.below(12) {
+            0..=2 => self.look_at_palette(),
+            3 => self.look(0, INDEXED_DATA, enables),
+            4 => {
+                let offset = self
+                    .rng
+                    .pick(&[PALETTE_WRITE_ADDRESS, PALETTE_READ_ADDRESS]);
+                self.look(0, offset, enables);
+            }
+            5 | 6 => {
+                let offset = self.region_offset();
+                self.look(0, offset, enables);
+            }
+            7 => {
+                let offset = self.header_offset();
+                self.look(3, offset, enables);
+            }
+            8 | 9 => {
+                let target = 1 + self.rng.below(2);
+                let offset = self.visible_offset();
+                self.look(target, offset, enables);
+            }
+            10 => self.look_with_reason(),
+            _ => self.bad_look(),
+        }
+    }
+
+    /// Palette and indexed data before any address is set.
+    fn look_before_address(&mut self) {
+        for offset in [
+            PALETTE_DATA,
+            INDEXED_DATA,
+            PALETTE_WRITE_ADDRESS,
+            PALETTE_READ_ADDRESS,
+        ] {
+            for enables in [15, 14, 0] {
+                if self.rng.chance(2, 3) {
+                    self.look_and_read(0, offset, enables);
+                }
+            }
+        }
+        self.look(0, PALETTE_DATA, 1);
+        self.look(0, INDEXED_DATA, 1);
+    }
+
+    /// Looks between the writes of a palette load, then the entry read back with
+    /// looks between the reads.
+    fn look_at_load(&mut self) {
+        if self.rng.chance(1, 2) {
+            self.set_width();
+        }
+        let entry = self.dot();
+        self.set_address(entry);
+        for _ in 0..3 {
+            let times = self.rng.below(3);
+            for _ in 0..times {
+                match self.rng.below(4) {
+                    0 => self.look_anywhere(),
+                    _ => self.look_at_palette(),
+                }
+            }
+            let byte = self.component();
+            self.palette_write(byte);
+        }
+        self.look_at_palette();
+        self.set_address(entry);
+        if self.rng.chance(1, 3) {
+            self.look(0, INDEXED_DATA, 15);
+        }
+        for _ in 0..4 {
+            let enables = self.lane_zero();
+            self.look_and_read(0, PALETTE_DATA, enables);
+            if self.rng.chance(1, 4) {
+                self.look_at_palette();
+            }
+        }
+        self.read_address();
+    }
+
+    /// Looks at entries at each component, stored or not, without a load.
+    fn look_at_entries(&mut self) {
+        let steps = 3 + self.rng.below(4);
+        for _ in 0..steps {
+            let entry = if self.rng.chance(1, 2) {
+                self.pool_entry()
+            } else {
+                self.rng.byte()
+            };
+            self.set_address(entry);
+            let reads = self.rng.below(4);
+            for _ in 0..reads {
+                self.palette_read();
+            }
+            let enables = self.lane_zero();
+            self.look(0, PALETTE_DATA, enables);
+            self.look_and_read(0, PALETTE_DATA, enables);
+            let offset = self
+                .rng
+                .pick(&[PALETTE_WRITE_ADDRESS, PALETTE_READ_ADDRESS]);
+            self.look_and_read(0, offset, 15);
+            self.look_at_palette();
+        }
+    }
+
+    fn look_at_registers(&mut self) {
+        for _ in 0..REGION0.len() / 2 {
+            let offset = REGION0[self.look_registers.next()].offset;
+            if self.rng.chance(1, 4) {
+                let word = self.any_word();
+                self.write(0, offset, 15, word);
+            }
+            let enables = self.enables();
+            self.look_and_read(0, offset, enables);
+        }
+        for offset in [0x1140, 0x1180] {
+            let enables = self.enables();
+            self.look_and_read(0, offset, enables);
+            self.write(0, offset, 15, 0);
+        }
+    }
+
+    fn look_at_header(&mut self) {
+        for _ in 0..20 {
+            let offset = 4 * self.look_words.next() as u32;
+            if self.rng.chance(1, 4) && offset != 0x2c {
+                let word = self.any_word();
+                self.write(3, offset, 15, word);
+            }
+            let enables = self.enables();
+            self.look_and_read(3, offset, enables);
+        }
+        // The write-once numbers, which a look does not fix.
+        self.look_and_read(3, 0x2c, 15);
+        let enables = self.rng.pick(&[3, 12, 15, 1, 0]);
+        let word = self.rng.word();
+        self.write(3, 0x2c, enables, word);
+        self.look_and_read(3, 0x2c, 15);
+        let offset = 0x100 + 4 * self.rng.below(0x40);
+        self.look_and_read(3, offset, 15);
+    }
+
+    /// Looks through the index: registers that are read, that are only written,
+    /// that are not there. The address stays.
+    fn look_at_indices(&mut self) {
+        for step in 0..12 {
+            let index = if step % 3 == 2 {
+                self.look_indices.next() as u8
+            } else {
+                PRESENT[self.look_present.next()]
+            };
+            self.set_address(index);
+            if self.rng.chance(1, 4) {
+                let byte = self.rng.byte();
+                self.indexed_write(byte);
+            }
+            let enables = self.enables();
+            self.look_and_read(0, INDEXED_DATA, enables);
+            if self.rng.chance(1, 2) {
+                self.look(0, PALETTE_WRITE_ADDRESS, 15);
+            } else {
+                self.look(0, PALETTE_DATA, 15);
+            }
+        }
+    }
+
+    /// Memory through each swap code, the one that is not served among them.
+    fn look_at_memory(&mut self) {
+        let mut codes = [0, 1, 2, 3];
+        self.rng.shuffle(&mut codes);
+        for code in codes {
+            let which = self.rng.below(2);
+            let control = APERTURE_CONTROLS[which as usize];
+            self.write(0, control, 15, 0);
+            let offset = 4 * self.rng.below(self.setup.memory_bytes / 4);
+            let word = self.rng.word();
+            self.write(1 + which, offset, 15, word);
+            self.write(0, control, 15, code);
+            self.look_and_read(1 + which, offset, 15);
+            for _ in 0..2 {
+                let enables = self.enables();
+                let offset = self.rng.pick(&[offset, offset, offset ^ 4]);
+                self.look_and_read(1 + which, offset, enables);
+            }
+            let offset = self.aperture_offset();
+            self.look_and_read(1 + which, offset, 15);
+            self.write(0, control, 15, 0);
+        }
+    }
+
+    fn look_refused(&mut self) {
+        let steps = 10 + self.rng.below(8);
+        for _ in 0..steps {
+            self.look_with_reason();
+        }
+    }
+
+    /// A look with one of the reasons 3 to 7, or two of them.
+    fn look_with_reason(&mut self) {
+        let fitted = self.setup.memory_bytes;
+        let odd = self.rng.pick(&[1, 2, 3]);
+        match self.rng.below(9) {
+            0 => {
+                let target = 4 + self.rng.below(6);
+                let offset = self.register() + self.rng.pick(&[0, odd]);
+                self.look_and_read(target, offset, 15);
+            }
+            1 => {
+                let enables = self.high_enables();
+                let target = self.rng.below(4);
+                let offset = 0x50 + self.rng.pick(&[0, 0, odd]);
+                self.look_and_read(target, offset, enables);
+            }
+            2 => {
+                let offset = self.register() + odd;
+                let enables = self.low_enables();
+                self.look_and_read(0, offset, enables);
+            }
+            3 => {
+                let target = 1 + self.rng.below(2);
+                let offset = self.rng.pick(&[0, 4, fitted - 4, fitted]) + odd;
+                self.look_and_read(target, offset, 15);
+            }
+            4 => {
+                let offset = TEMPTING[self.tempting.next()];
+                let enables = self.low_enables();
+                self.look_and_read(0, offset, enables);
+            }
+            5 => {
+                let target = 1 + self.rng.below(2);
+                let offset = fitted + 4 * self.rng.below(3);
+                self.look_and_read(target, offset, 15);
+            }
+            6 => {
+                let offset = self.rng.pick(&[odd, 0x100, 0x104, 0x1_0000, 0x100 + odd]);
+                self.look_and_read(3, offset, 15);
+            }
+            7 => {
+                // A clock parameter, which is only written.
+                let index = self.rng.pick(&[0x20, 0x22, 0x25, 0x28, 0x30, 0x32]);
+                self.set_address(index);
+                let enables = self.low_enables();
+                self.look_and_read(0, INDEXED_DATA, enables);
+            }
+            _ => {
+                let which = self.rng.below(2);
+                let mode = self.rng.pick(&[3, 8, 0x100, 0x200]);
+                self.write(0, APERTURE_CONTROLS[which as usize], 15, mode);
+                let enables = self.rng.pick(&[15, 15, 0, 6]);
+                let offset = self.rng.pick(&[0, 4, fitted - 4, fitted]);
+                self.look_and_read(1 + which, offset, enables);
+                self.write(0, APERTURE_CONTROLS[which as usize], 15, 0);
+            }
+        }
+    }
+
+    fn look_malformed(&mut self) {
+        for _ in 0..8 {
+            self.bad_look();
+        }
+    }
+
+    /// A line that is no look, near to one that is.
+    fn bad_look(&mut self) {
+        let offset = self.rng.pick(&[PALETTE_DATA, 0x1040, PIXEL_MASK, 0]);
+        let target = self.rng.pick(&[0, 0, 1, 3]);
+        let good = format!("l {target} {offset:x} f");
+        if self.bad_looks.is_empty() {
+            self.bad_looks = (0..BAD_LOOKS).collect();
+            self.rng.shuffle(&mut self.bad_looks);
+        }
+        let bad = match self.bad_looks.pop().unwrap_or(0) {
+            0 => good.replace('l', "L"),
+            1 => format!("{good} 0"),
+            2 => format!("{good} ffffffff"),
+            3 => format!("l {target} {offset:x}"),
+            4 => "l".to_string(),
+            5 => format!(" {good}"),
+            6 => format!("{good} "),
+            7 => good.replacen(' ', "  ", 1),
+            8 => good.replacen(' ', "\t", 1),
+            9 => format!("{good}\r"),
+            10 => format!("l 0{target} {offset:x} f"),
+            11 => format!("l {target} {offset:09x} f"),
+            12 => format!("l {target} 0x{offset:x} f"),
+            13 => format!("l{target} {offset:x} f"),
+            14 => good.replace('l', self.rng.pick(&["ll", "lr", "look", "1", "I"])),
+            15 => format!("l {target} {offset:x} {}", "0".repeat(64)),
+            16 => format!("l a {offset:x} f"),
+            _ => format!("{good} {good}"),
+        };
+        self.push_look(bad.into_bytes());
     }
 }

@@ -6,6 +6,7 @@
 mod bits;
 mod breaks;
 mod check;
+mod explain;
 mod generate;
 mod model;
 mod net;
@@ -24,12 +25,13 @@ use std::path::Path;
 use std::process::ExitCode;
 
 use breaks::Break;
-use trace::{Failure, Setup, USUAL};
+use trace::{Failure, Program, Setup, USUAL};
 
 const USAGE: &str = "usage:
   second trace [WIDTHxHEIGHT BYTES] [--check] [--picture FILE] [--break N]
-  second generate SEED LINES [WIDTHxHEIGHT BYTES]
-  second stats FILE [WIDTHxHEIGHT BYTES]
+  second explain [WIDTHxHEIGHT BYTES] [--check] [--picture FILE] [--break N]
+  second generate SEED LINES [WIDTHxHEIGHT BYTES] [--looks]
+  second stats FILE [WIDTHxHEIGHT BYTES] [--looks]
   second selftest [--seed N] [--panels N] [--lines N] [--break N]
   second breaks [all]
   second net FOLDER [all]";
@@ -49,6 +51,7 @@ fn main() -> ExitCode {
 struct Line {
     words: Vec<String>,
     check: bool,
+    looks: bool,
     picture: Option<String>,
     broken: Break,
     seed: u64,
@@ -60,6 +63,7 @@ fn take_apart(arguments: &[String]) -> Result<Line, String> {
     let mut line = Line {
         words: Vec::new(),
         check: false,
+        looks: false,
         picture: None,
         broken: Break::Nothing,
         seed: 1,
@@ -81,6 +85,7 @@ fn take_apart(arguments: &[String]) -> Result<Line, String> {
         };
         match word.as_str() {
             "--check" => line.check = true,
+            "--looks" => line.looks = true,
             "--seed" => line.seed = number()?,
             "--panels" => line.panels = number()? as u32,
             "--lines" => line.lines = number()? as usize,
@@ -107,6 +112,31 @@ fn setup(words: &[String]) -> Result<Setup, String> {
     }
 }
 
+/// Runs a program from standard input to standard output.
+fn lines(program: Program, line: &Line, setup: Setup) -> Result<ExitCode, String> {
+    let mut input = BufReader::new(io::stdin().lock());
+    let mut output = BufWriter::new(io::stdout().lock());
+    let outcome = program(line.broken, setup, line.check, &mut input, &mut output);
+    let flushed = output.flush();
+    match outcome.and_then(|machine| flushed.map(|()| machine).map_err(Failure::Io)) {
+        Ok(machine) => {
+            if let Some(file) = &line.picture {
+                std::fs::write(file, machine.picture_file())
+                    .map_err(|error| format!("{file}: {error}"))?;
+            }
+            Ok(ExitCode::SUCCESS)
+        }
+        Err(Failure::Wrong(text)) => {
+            eprintln!("second: {text}");
+            Ok(ExitCode::from(1))
+        }
+        Err(Failure::Io(error)) if error.kind() == io::ErrorKind::BrokenPipe => {
+            Ok(ExitCode::SUCCESS)
+        }
+        Err(Failure::Io(error)) => Err(error.to_string()),
+    }
+}
+
 fn command(arguments: &[String]) -> Result<ExitCode, String> {
     let line = take_apart(arguments)?;
     let words = &line.words;
@@ -114,36 +144,14 @@ fn command(arguments: &[String]) -> Result<ExitCode, String> {
         return Err(USAGE.to_string());
     };
     match (name.as_str(), &words[1..]) {
-        ("trace", panel) => {
-            let setup = setup(panel)?;
-            let mut input = BufReader::new(io::stdin().lock());
-            let mut output = BufWriter::new(io::stdout().lock());
-            let outcome = trace::run(line.broken, setup, line.check, &mut input, &mut output);
-            let flushed = output.flush();
-            match outcome.and_then(|machine| flushed.map(|()| machine).map_err(Failure::Io)) {
-                Ok(machine) => {
-                    if let Some(file) = &line.picture {
-                        std::fs::write(file, machine.picture_file())
-                            .map_err(|error| format!("{file}: {error}"))?;
-                    }
-                    Ok(ExitCode::SUCCESS)
-                }
-                Err(Failure::Wrong(text)) => {
-                    eprintln!("second: {text}");
-                    Ok(ExitCode::from(1))
-                }
-                Err(Failure::Io(error)) if error.kind() == io::ErrorKind::BrokenPipe => {
-                    Ok(ExitCode::SUCCESS)
-                }
-                Err(Failure::Io(error)) => Err(error.to_string()),
-            }
-        }
+        ("trace", panel) => lines(trace::run, &line, setup(panel)?),
+        ("explain", panel) => lines(explain::run, &line, setup(panel)?),
         ("generate", [seed, lines, panel @ ..]) => {
             let seed = seed.parse().map_err(|_| format!("{seed} is no seed"))?;
             let lines = lines
                 .parse()
                 .map_err(|_| format!("{lines} is no number of lines"))?;
-            let text = generate::trace(seed, lines, setup(panel)?);
+            let text = generate::trace(seed, lines, setup(panel)?, line.looks);
             match io::stdout().lock().write_all(&text) {
                 Err(error) if error.kind() != io::ErrorKind::BrokenPipe => Err(error.to_string()),
                 _ => Ok(ExitCode::SUCCESS),
@@ -151,7 +159,7 @@ fn command(arguments: &[String]) -> Result<ExitCode, String> {
         }
         ("stats", [file, panel @ ..]) => {
             let text = std::fs::read(file).map_err(|e| format!("{file}: {e}"))?;
-            print!("{}", stats::of(&text, setup(panel)?)?.report());
+            print!("{}", stats::of(&text, setup(panel)?, line.looks)?.report());
             Ok(ExitCode::SUCCESS)
         }
         ("selftest", []) => {

@@ -1,5 +1,8 @@
-//! Openings and accesses: refusals, region 0, the RAMDAC, the header, the
-//! apertures. The picture is in `picture`.
+//! Openings, reads, writes and looks: refusals, region 0, the RAMDAC, the
+//! header, the apertures. The picture is in `picture`.
+//!
+//! What a read shows and what it alters are apart (`shown`, `step`), so that a
+//! look can show the same and be lent everything to be read only (02, C-12).
 //!
 //! Where `self.is(Rule::...)` stands, a deliberate mistake can be switched on;
 //! without one, none of these places does anything.
@@ -8,7 +11,10 @@ use std::cell::Cell;
 
 use crate::bits::{byte_of, lane, lanes, Bits};
 use crate::breaks::{Break, Rule};
-use crate::offsets::{APERTURE_ONE_CONTROL, APERTURE_TWO_CONTROL, BYPASS_WRITE_MASK};
+use crate::offsets::{
+    APERTURE_ONE_CONTROL, APERTURE_TWO_CONTROL, BYPASS_WRITE_MASK, INDEXED_DATA, PALETTE_DATA,
+    PALETTE_READ_ADDRESS, PALETTE_WRITE_ADDRESS,
+};
 use crate::picture::UNDRAWN;
 use crate::state::{memory_fits, side_fits, Entry, Stage, State};
 use crate::tables::{Kind, Tables, MISC_CONTROL, SUBSYSTEM};
@@ -29,13 +35,54 @@ pub const APERTURE_ONE: u32 = 1;
 pub const APERTURE_TWO: u32 = 2;
 pub const CONFIGURATION: u32 = 3;
 
+/// Where a read, a write or a look goes.
 #[derive(Clone, Copy, PartialEq, Eq, Debug)]
-pub struct Access {
-    pub write: bool,
+pub struct At {
     pub target: u32,
     pub offset: u32,
     pub enables: u32,
-    pub word: u32,
+}
+
+impl At {
+    pub fn is_memory(&self) -> bool {
+        self.target == APERTURE_ONE || self.target == APERTURE_TWO
+    }
+
+    pub fn is_register(&self, offset: u32) -> bool {
+        self.target == REGION_ZERO && self.offset == offset
+    }
+}
+
+/// Which of the three is asked for.
+#[derive(Clone, Copy, PartialEq, Eq, Debug)]
+pub enum Act {
+    Read,
+    Write,
+    Look,
+}
+
+/// One of the three, with what it needs.
+#[derive(Clone, Copy, PartialEq, Eq, Debug)]
+pub enum Asked {
+    Read(At),
+    Write(At, u32),
+    Look(At),
+}
+
+impl Asked {
+    pub fn at(&self) -> At {
+        match *self {
+            Asked::Read(at) | Asked::Write(at, _) | Asked::Look(at) => at,
+        }
+    }
+
+    pub fn act(&self) -> Act {
+        match self {
+            Asked::Read(_) => Act::Read,
+            Asked::Write(..) => Act::Write,
+            Asked::Look(_) => Act::Look,
+        }
+    }
 }
 
 #[derive(Clone, Copy, PartialEq, Eq, Debug)]
@@ -46,12 +93,30 @@ pub struct Answer {
     pub changed: u32,
 }
 
+/// What a look answers. It alters nothing, so it has no changed count.
+#[derive(Clone, Copy, PartialEq, Eq, Debug)]
+pub struct Seen {
+    pub status: u32,
+    pub word: u32,
+    pub known: u32,
+}
+
 pub struct Model {
     pub tables: Tables,
     pub broken: Break,
     /// Used by the break `WidthAtFirst` only.
     first_was_eight: Cell<bool>,
+    /// Used by the break `LookAnswersLastRead` only.
+    last_read: Cell<Seen>,
+    /// Used by the break `LookStandsForRead` only.
+    looked: Cell<bool>,
 }
+
+const NOTHING_SEEN: Seen = Seen {
+    status: DONE,
+    word: 0,
+    known: 0,
+};
 
 /// How an aperture arranges bytes. The served ones are numbered as their codes.
 #[derive(Clone, Copy, PartialEq, Eq, Debug)]
@@ -78,6 +143,8 @@ impl Model {
             tables,
             broken,
             first_was_eight: Cell::new(false),
+            last_read: Cell::new(NOTHING_SEEN),
+            looked: Cell::new(false),
         }
     }
 
@@ -139,84 +206,203 @@ impl Model {
         }
     }
 
-    // ----- accesses -----
+    // ----- reads, writes and looks -----
 
-    /// Carries out one access on a state and its lent buffers.
-    pub fn access(
+    /// A read. It alters the state only.
+    pub fn read(&self, state: &mut State, memory: &[u8], picture: &[u32], lent: At) -> Answer {
+        let at = self.cut(lent);
+        let status = self.refusal(state, memory, picture, &at, Act::Read);
+        let seen = if status != DONE {
+            self.drop_by_refusal(state);
+            self.refused(status, &at, Act::Read)
+        } else if self.is(Rule::ReadAnswersNext) {
+            self.step(state, &at);
+            self.seen(state, memory, &at, Act::Read)
+        } else {
+            let seen = self.seen(state, memory, &at, Act::Read);
+            self.step(state, &at);
+            seen
+        };
+        self.last_read.set(seen);
+        Answer {
+            status: seen.status,
+            word: seen.word,
+            known: seen.known,
+            changed: 0,
+        }
+    }
+
+    /// A write, which redraws what it changed.
+    pub fn write(
         &self,
         state: &mut State,
         memory: &mut [u8],
         picture: &mut [u32],
-        lent: &Access,
+        lent: At,
+        word: u32,
     ) -> Answer {
-        let mut access = *lent;
-        if self.is(Rule::HighEnablesCut) {
-            access.enables &= 15;
+        let at = self.cut(lent);
+        let mut answer = Answer {
+            status: self.refusal(state, memory, picture, &at, Act::Write),
+            word: 0,
+            known: 0,
+            changed: 0,
+        };
+        if answer.status != DONE {
+            self.drop_by_refusal(state);
+            return answer;
         }
-        if self.is(Rule::HighTargetCut) {
-            access.target &= 3;
+        let before = self.words(state, memory);
+        self.put(state, memory, &at, word);
+        let after = self.words(state, memory);
+        answer.changed = self.redraw(state, &at, picture, &before, &after);
+        if self.is(Rule::WriteAnswersWord) {
+            answer.word = word;
         }
-        if self.is(Rule::OffsetRounded) {
-            access.offset &= !3;
+        if self.is(Rule::WriteAnswersKnown) {
+            answer.known = lanes(at.enables);
         }
+        if self.is(Rule::WriteAnswersRead) {
+            let seen = self.look(state, memory, picture, at);
+            (answer.word, answer.known) = (seen.word, seen.known);
+        }
+        answer
+    }
 
-        let status = self.refusal(state, memory, picture, &access);
+    /// A look: what the read would answer now (02, C-12).
+    pub fn look(&self, state: &State, memory: &[u8], picture: &[u32], lent: At) -> Seen {
+        if self.is(Rule::LookAnswersLastRead) {
+            return self.last_read.get();
+        }
+        let at = self.cut_look(self.cut(lent));
+        let status = self.refusal(state, memory, picture, &at, Act::Look);
         if status != DONE {
-            if self.is(Rule::StageDroppedByRefusal) {
+            return self.refused(status, &at, Act::Look);
+        }
+        if at.is_register(PALETTE_DATA) && at.enables & 1 == 1 {
+            self.looked.set(true);
+        }
+        if self.is(Rule::LookAnswersNext) {
+            let mut later = state.clone();
+            self.step(&mut later, &at);
+            return self.seen(&later, memory, &at, Act::Look);
+        }
+        self.seen(state, memory, &at, Act::Look)
+    }
+
+    /// What breaks let a look alter. The look cannot, so whoever looks calls this
+    /// after it; without a break it does nothing.
+    pub fn spoil(&self, state: &mut State, memory: &[u8], picture: &mut [u32], at: At, seen: Seen) {
+        if self.is(Rule::LookDropsAnyStage) {
+            state.stage = Stage::Empty;
+        }
+        if seen.status != DONE {
+            return;
+        }
+        let lane_zero = at.enables & 1 == 1;
+        if at.is_register(PALETTE_DATA) {
+            if self.is(Rule::LookAdvances) && lane_zero
+                || self.is(Rule::LookAdvancesAnyLane) && !lane_zero
+            {
+                self.advance(state, false);
+            }
+            if self.is(Rule::LookDropsStage) && lane_zero {
                 state.stage = Stage::Empty;
             }
-            let mut known = 0;
-            if self.is(Rule::RefusedAnswersKnown) && !access.write {
-                known = lanes(access.enables);
+            if self.is(Rule::LookIsRead) && lane_zero {
+                self.step(state, &at);
             }
-            return Answer {
-                status,
-                word: 0,
-                known,
-                changed: 0,
-            };
         }
+        if at.is_register(INDEXED_DATA) && self.is(Rule::LookMovesAddress) {
+            state.address = state.address.wrapping_add(1);
+        }
+        let address = at.is_register(PALETTE_WRITE_ADDRESS) || at.is_register(PALETTE_READ_ADDRESS);
+        if address && self.is(Rule::LookAddressResets) {
+            state.component = 0;
+            state.stage = Stage::Empty;
+        }
+        if at.target == CONFIGURATION && at.offset == SUBSYSTEM && self.is(Rule::LookFixes) {
+            state.vendor_fixed = true;
+            state.id_fixed = true;
+        }
+        if self.is(Rule::LookRedraws) {
+            picture.copy_from_slice(&self.words(state, memory));
+        }
+    }
 
-        let before = self.words(state, memory);
-        let (word, known) = if access.write {
-            self.write(state, memory, &access);
-            (
-                if self.is(Rule::WriteAnswersWord) {
-                    access.word
-                } else {
-                    0
-                },
-                if self.is(Rule::WriteAnswersKnown) {
-                    lanes(access.enables)
-                } else {
-                    0
-                },
-            )
-        } else {
-            let shown = self.read(state, memory, &access);
-            self.answer(shown, &access)
-        };
-        let after = self.words(state, memory);
-        let changed = self.redraw(state, &access, picture, &before, &after);
-        Answer {
+    /// Where it goes, as some breaks have it.
+    fn cut(&self, lent: At) -> At {
+        let mut at = lent;
+        if self.is(Rule::HighEnablesCut) {
+            at.enables &= 15;
+        }
+        if self.is(Rule::HighTargetCut) {
+            at.target &= 3;
+        }
+        if self.is(Rule::OffsetRounded) {
+            at.offset &= !3;
+        }
+        at
+    }
+
+    /// The same for looks only.
+    fn cut_look(&self, lent: At) -> At {
+        let mut at = lent;
+        if self.is(Rule::LookHighEnables) {
+            at.enables &= 15;
+        }
+        if self.is(Rule::LookOffsetRounded) {
+            at.offset &= !3;
+        }
+        at
+    }
+
+    fn drop_by_refusal(&self, state: &mut State) {
+        if self.is(Rule::StageDroppedByRefusal) {
+            state.stage = Stage::Empty;
+        }
+    }
+
+    /// The answer of a read or a look that is refused.
+    fn refused(&self, status: u32, at: &At, act: Act) -> Seen {
+        let mut known = 0;
+        if self.is(Rule::RefusedAnswersKnown) || self.is(Rule::LookRefusedKnown) && act == Act::Look
+        {
+            known = lanes(at.enables);
+        }
+        Seen {
+            status,
+            word: 0,
+            known,
+        }
+    }
+
+    /// The answer of a read or a look that is done.
+    fn seen(&self, state: &State, memory: &[u8], at: &At, act: Act) -> Seen {
+        let shown = self.shown(state, memory, at, act);
+        let (word, known) = self.answer(shown, at, act);
+        Seen {
             status: DONE,
             word,
             known,
-            changed,
         }
     }
 
     /// What of a word a read shows.
-    fn answer(&self, shown: Bits, access: &Access) -> (u32, u32) {
-        let mut enabled = lanes(access.enables);
-        let memory = access.target == APERTURE_ONE || access.target == APERTURE_TWO;
+    fn answer(&self, shown: Bits, at: &At, act: Act) -> (u32, u32) {
+        let mut enabled = lanes(at.enables);
+        let memory = at.is_memory();
+        let look = act == Act::Look;
         if self.is(Rule::ReadIgnoresEnables) && !memory {
             enabled = lanes(15);
         }
         if self.is(Rule::MemoryReadAllLanes) && memory {
             enabled = lanes(15);
         }
-        if self.is(Rule::UnknownShownKnown) {
+        if self.is(Rule::LookAllLanes) && look {
+            enabled = lanes(15);
+        }
+        if self.is(Rule::UnknownShownKnown) || self.is(Rule::LookUnknownKnown) && look {
             return (shown.value & enabled, enabled);
         }
         if self.is(Rule::DisabledLanesKnown) {
@@ -230,25 +416,32 @@ impl Model {
 
     // ----- refusals -----
 
-    /// The number of the first refusal that holds, or 0.
-    fn refusal(&self, state: &State, memory: &[u8], picture: &[u32], access: &Access) -> u32 {
+    /// The number of the first refusal that holds, or 0. A look is refused as
+    /// the read; only breaks tell them apart.
+    fn refusal(&self, state: &State, memory: &[u8], picture: &[u32], at: &At, act: Act) -> u32 {
         let dots = u64::from(state.width) * u64::from(state.height);
         let mut wrong_length =
             picture.len() as u64 != dots || memory.len() as u64 != u64::from(state.memory_bytes);
         if self.is(Rule::LengthIgnored) {
             wrong_length &= (picture.len() as u64) < dots;
         }
+        if self.is(Rule::ReadAnyLength) && act == Act::Read
+            || self.is(Rule::LookAnyLength) && act == Act::Look
+        {
+            wrong_length = memory.len() as u64 != u64::from(state.memory_bytes);
+        }
         if self.is(Rule::TwoBeforeOne) && wrong_length {
             return WRONG_LENGTH;
         }
-        if !state.is_state(&self.tables, &self.broken) {
+        let unasked = self.is(Rule::LookAnyState) && act == Act::Look;
+        if !state.is_state(&self.tables, &self.broken) && !unasked {
             return NOT_A_STATE;
         }
 
-        let no_target = access.target > 3 || access.enables > 15;
-        let mut not_aligned = access.offset % 4 != 0;
+        let no_target = at.target > 3 || at.enables > 15;
+        let mut not_aligned = at.offset % 4 != 0;
         if self.is(Rule::OffsetEven) {
-            not_aligned = access.offset % 2 != 0;
+            not_aligned = at.offset % 2 != 0;
         }
         if self.is(Rule::ThreeBeforeTwo) && no_target {
             return NO_TARGET;
@@ -256,11 +449,13 @@ impl Model {
         if wrong_length {
             return WRONG_LENGTH;
         }
-        if self.is(Rule::FourBeforeThree) && not_aligned {
+        let four_first = self.is(Rule::FourBeforeThree)
+            || self.is(Rule::LookFourBeforeThree) && act == Act::Look;
+        if four_first && not_aligned {
             return NOT_ALIGNED;
         }
-        if self.is(Rule::FiveBeforeThree) && access.target <= 3 {
-            let status = self.refusal_there(state, access);
+        if self.is(Rule::FiveBeforeThree) && at.target <= 3 {
+            let status = self.refusal_there(state, at, act);
             if status == NOTHING_HERE && !not_aligned {
                 return NOTHING_HERE;
             }
@@ -268,41 +463,43 @@ impl Model {
         if no_target {
             return NO_TARGET;
         }
-        if self.is(Rule::FiveBeforeFour) && self.refusal_there(state, access) == NOTHING_HERE {
+        if self.is(Rule::FiveBeforeFour) && self.refusal_there(state, at, act) == NOTHING_HERE {
             return NOTHING_HERE;
         }
         if self.is(Rule::SevenBeforeFour)
-            && (access.target == APERTURE_ONE || access.target == APERTURE_TWO)
-            && self.order(state, access.target) == Order::NotServed
+            && at.is_memory()
+            && self.order(state, at.target) == Order::NotServed
         {
             return NOT_SERVED;
         }
         if not_aligned {
             return NOT_ALIGNED;
         }
-        self.refusal_there(state, access)
+        self.refusal_there(state, at, act)
     }
 
     /// Refusals 5, 6 and 7, which depend on the target.
-    fn refusal_there(&self, state: &State, access: &Access) -> u32 {
-        match access.target {
-            REGION_ZERO => self.region0_refusal(state, access),
-            CONFIGURATION => self.header_refusal(access),
-            _ => self.aperture_refusal(state, access),
+    fn refusal_there(&self, state: &State, at: &At, act: Act) -> u32 {
+        match at.target {
+            REGION_ZERO => self.region0_refusal(state, at, act),
+            CONFIGURATION => self.header_refusal(at, act),
+            _ => self.aperture_refusal(state, at, act),
         }
     }
 
-    fn region0_refusal(&self, state: &State, access: &Access) -> u32 {
-        let Some(row) = self.row(access.offset) else {
-            if self.is(Rule::NoLanesAbsent) && access.enables == 0 {
+    fn region0_refusal(&self, state: &State, at: &At, act: Act) -> u32 {
+        let Some(row) = self.row(at.offset) else {
+            if self.is(Rule::NoLanesAbsent) && at.enables == 0 {
                 return DONE;
             }
             return NOTHING_HERE;
         };
         let register = &self.tables.region0[row];
-        let lane_zero = access.enables & 1 == 1;
+        let look = act == Act::Look;
+        let writes = self.refused_as_write(act);
+        let lane_zero = at.enables & 1 == 1;
         let mut address_unknown = state.address_known != 0xff;
-        if self.is(Rule::UnknownAddressServed) {
+        if self.is(Rule::UnknownAddressServed) || self.is(Rule::LookUnknownAddress) && look {
             address_unknown = false;
         }
         if self.is(Rule::UnknownAddressNeedsLane) && !lane_zero {
@@ -310,6 +507,9 @@ impl Model {
         }
         if register.kind == Kind::PaletteData && address_unknown {
             return NOTHING_HERE;
+        }
+        if register.kind == Kind::PaletteData && look && self.is(Rule::LookPaletteRefused) {
+            return NO_DIRECTION;
         }
         if register.kind == Kind::IndexedData {
             if self.is(Rule::MissedLaneNoRefusal) && !lane_zero {
@@ -322,30 +522,36 @@ impl Model {
             if !indirect.exists && self.is(Rule::AbsentIndexIsSix) {
                 return NO_DIRECTION;
             }
-            if !indirect.exists && !self.is(Rule::AbsentIndexServed) {
+            let absent_served =
+                self.is(Rule::AbsentIndexServed) || self.is(Rule::LookAbsentIndex) && look;
+            if !indirect.exists && !absent_served {
                 return NOTHING_HERE;
             }
-            if indirect.exists && !access.write && !indirect.reads && !self.is(Rule::WriteOnlyRead)
-            {
+            let write_only_read =
+                self.is(Rule::WriteOnlyRead) || self.is(Rule::LookWriteOnly) && look;
+            if indirect.exists && !writes && !indirect.reads && !write_only_read {
                 return NO_DIRECTION;
             }
             let status_register = indirect.exists && indirect.writable == 0;
-            if status_register && access.write && self.is(Rule::ClockStatusWriteRefused) {
+            if status_register && writes && self.is(Rule::ClockStatusWriteRefused) {
                 return NO_DIRECTION;
             }
         }
-        if self.is(Rule::RebootReadRefused) && register.name == "Reboot" && !access.write {
+        if self.is(Rule::RebootReadRefused) && register.name == "Reboot" && !writes {
             return NO_DIRECTION;
         }
-        if self.is(Rule::CompleteWriteRefused) && register.name == "ByDMAComplete" && access.write {
+        if self.is(Rule::CompleteWriteRefused) && register.name == "ByDMAComplete" && writes {
             return NO_DIRECTION;
         }
-        let has_direction = if access.write {
+        let mut has_direction = if writes {
             register.writes
         } else {
             register.reads
         };
-        if has_direction || self.is(Rule::NoLanesReadOnly) && access.enables == 0 {
+        if self.is(Rule::LookReadOnlyRefused) && look {
+            has_direction &= register.writes;
+        }
+        if has_direction || self.is(Rule::NoLanesReadOnly) && at.enables == 0 {
             DONE
         } else if self.is(Rule::MissingDirectionIsFive) {
             NOTHING_HERE
@@ -354,48 +560,67 @@ impl Model {
         }
     }
 
-    fn header_refusal(&self, access: &Access) -> u32 {
-        if access.offset > 0xfc && !self.is(Rule::HeaderWraps) {
+    /// Whether the direction asked for is that of a write.
+    fn refused_as_write(&self, act: Act) -> bool {
+        match act {
+            Act::Read => self.is(Rule::ReadRefusedAsWrite),
+            Act::Write => !self.is(Rule::WriteRefusedAsRead),
+            Act::Look => false,
+        }
+    }
+
+    fn header_refusal(&self, at: &At, act: Act) -> u32 {
+        if at.offset > 0xfc && !self.is(Rule::HeaderWraps) {
             return NOTHING_HERE;
         }
-        let offset = access.offset & 0xfc;
+        let offset = at.offset & 0xfc;
         let word = &self.tables.header[offset as usize / 4];
         let fixed = word.writable | word.cleared == 0 && offset != SUBSYSTEM;
-        if self.is(Rule::HeaderAbsentRefused) && fixed && word.reset == Bits::known(0) {
+        let absent_refused = self.is(Rule::HeaderAbsentRefused)
+            || self.is(Rule::LookBlankRefused) && act == Act::Look;
+        if absent_refused && fixed && word.reset == Bits::known(0) {
             return NOTHING_HERE;
         }
-        if self.is(Rule::HeaderReadOnlyRefused) && fixed && access.write {
+        if self.is(Rule::HeaderReadOnlyRefused) && fixed && act == Act::Write {
             return NO_DIRECTION;
         }
         DONE
     }
 
-    fn aperture_refusal(&self, state: &State, access: &Access) -> u32 {
+    fn aperture_refusal(&self, state: &State, at: &At, act: Act) -> u32 {
         let fitted = u64::from(state.memory_bytes);
-        let mut beyond = u64::from(access.offset) + 4 > fitted;
+        let mut beyond = u64::from(at.offset) + 4 > fitted;
         if self.is(Rule::ApertureWraps) {
             beyond = false;
         }
         if self.is(Rule::ApertureEndWraps) {
-            beyond = u64::from(access.offset.wrapping_add(4)) > fitted;
+            beyond = u64::from(at.offset.wrapping_add(4)) > fitted;
         }
         if self.is(Rule::ApertureOneMore) {
-            beyond = u64::from(access.offset) > fitted;
+            beyond = u64::from(at.offset) > fitted;
         }
         if self.is(Rule::ApertureOneLess) {
-            beyond = u64::from(access.offset) + 4 >= fitted;
+            beyond = u64::from(at.offset) + 4 >= fitted;
         }
-        if self.is(Rule::NoLanesBeyondMemory) && access.enables == 0 {
+        if self.is(Rule::NoLanesBeyondMemory) && at.enables == 0 {
             beyond = false;
         }
         if self.is(Rule::MemoryEnableGates) && state.header[1].value & 2 == 0 {
             beyond = true;
         }
-        let mut not_served = self.order(state, access.target) == Order::NotServed;
-        if self.is(Rule::NoLanesAnyMode) && access.enables == 0 {
+        let mut not_served = self.order(state, at.target) == Order::NotServed;
+        if self.is(Rule::NoLanesAnyMode) && at.enables == 0 {
             not_served = false;
         }
-        if self.is(Rule::SevenBeforeFive) && not_served {
+        if act == Act::Look {
+            let code = self.aperture_control(state, at.target) & 3;
+            if self.is(Rule::LookAnyMode) || self.is(Rule::LookCodeThree) && code == 3 {
+                not_served = false;
+            }
+        }
+        let seven_first = self.is(Rule::SevenBeforeFive)
+            || self.is(Rule::LookSevenBeforeFive) && act == Act::Look;
+        if seven_first && not_served {
             return NOT_SERVED;
         }
         if beyond {
@@ -407,25 +632,57 @@ impl Model {
         }
     }
 
-    // ----- reads and writes that are not refused -----
+    // ----- reads, writes and looks that are not refused -----
 
-    fn read(&self, state: &mut State, memory: &[u8], access: &Access) -> Bits {
-        match access.target {
-            REGION_ZERO => self.region0_read(state, access),
-            CONFIGURATION => self.header_read(state, access.offset),
-            _ => self.aperture_read(state, memory, access),
+    /// What a read shows, before lanes are left out.
+    fn shown(&self, state: &State, memory: &[u8], at: &At, act: Act) -> Bits {
+        match at.target {
+            REGION_ZERO => self.region0_shown(state, at, act),
+            CONFIGURATION => self.header_shown(state, at.offset),
+            _ => self.aperture_shown(state, memory, at, act),
         }
     }
 
-    fn write(&self, state: &mut State, memory: &mut [u8], access: &Access) {
-        match access.target {
-            REGION_ZERO => self.region0_write(state, access),
-            CONFIGURATION => self.header_write(state, access),
-            _ => self.aperture_write(state, memory, access),
+    /// What a read alters. That is something at palette data only; all else here
+    /// is breaks.
+    fn step(&self, state: &mut State, at: &At) {
+        if at.target != REGION_ZERO {
+            return;
         }
-        if self.is(Rule::StageDroppedByMemory)
-            && (access.target == APERTURE_ONE || access.target == APERTURE_TWO)
-        {
+        let Some(row) = self.row(at.offset) else {
+            return;
+        };
+        let lane_zero = at.enables & 1 == 1;
+        match self.tables.region0[row].kind {
+            Kind::PaletteData if lane_zero || self.is(Rule::PaletteReadAnyLane) => {
+                self.palette_step(state);
+            }
+            Kind::PaletteData if self.is(Rule::PaletteReadAnyLaneDrops) => {
+                state.stage = Stage::Empty;
+            }
+            Kind::PaletteAddress if self.is(Rule::AddressReadResets) => {
+                state.component = 0;
+                state.stage = Stage::Empty;
+            }
+            Kind::Stored if self.is(Rule::StageDroppedByOthers) => state.stage = Stage::Empty,
+            Kind::IndexedData if lane_zero && self.is(Rule::IndexedDropsStage) => {
+                state.stage = Stage::Empty;
+            }
+            Kind::IndexedData if lane_zero && self.is(Rule::IndexedReadAdvances) => {
+                self.advance(state, false);
+            }
+            _ => {}
+        }
+    }
+
+    /// What a write stores.
+    fn put(&self, state: &mut State, memory: &mut [u8], at: &At, word: u32) {
+        match at.target {
+            REGION_ZERO => self.region0_write(state, at, word),
+            CONFIGURATION => self.header_write(state, at, word),
+            _ => self.aperture_write(state, memory, at, word),
+        }
+        if self.is(Rule::StageDroppedByMemory) && at.is_memory() {
             state.stage = Stage::Empty;
         }
     }
@@ -455,29 +712,19 @@ impl Model {
         }
     }
 
-    fn region0_read(&self, state: &mut State, access: &Access) -> Bits {
-        let Some(row) = self.row(access.offset) else {
+    fn region0_shown(&self, state: &State, at: &At, act: Act) -> Bits {
+        let Some(row) = self.row(at.offset) else {
             return Bits::unknown();
         };
         let register = &self.tables.region0[row];
-        let lane_zero = access.enables & 1 == 1;
-        if self.is(Rule::StageDroppedByOthers) && register.kind == Kind::Stored {
-            state.stage = Stage::Empty;
-        }
+        let lane_zero = at.enables & 1 == 1;
         let mut shown = match register.kind {
+            Kind::Stored if self.is(Rule::LookShowsReset) && act == Act::Look => register.reset,
             Kind::Stored => state.region0[row],
-            Kind::PaletteAddress => self.address_read(state, register.name),
-            Kind::PaletteData if lane_zero => self.palette_read(state),
-            Kind::PaletteData => {
-                if self.is(Rule::PaletteReadAnyLane) {
-                    self.palette_read(state);
-                }
-                if self.is(Rule::PaletteReadAnyLaneDrops) {
-                    state.stage = Stage::Empty;
-                }
-                Bits::unknown()
-            }
-            Kind::IndexedData if lane_zero => self.indexed_read(state),
+            Kind::PaletteAddress => self.address_shown(state, register.name),
+            Kind::PaletteData if lane_zero => self.palette_shown(state, act),
+            Kind::PaletteData => Bits::unknown(),
+            Kind::IndexedData if lane_zero => self.indexed_shown(state),
             Kind::IndexedData => Bits::unknown(),
         };
         if self.is(Rule::DirectHighKnown) && register.offset >= 0x4000 {
@@ -486,18 +733,18 @@ impl Model {
         shown
     }
 
-    fn region0_write(&self, state: &mut State, access: &Access) {
-        let Some(row) = self.row(access.offset) else {
+    fn region0_write(&self, state: &mut State, at: &At, word: u32) {
+        let Some(row) = self.row(at.offset) else {
             return;
         };
         let register = &self.tables.region0[row];
-        let lane_zero = access.enables & 1 == 1;
-        let byte = byte_of(access.word, 0);
+        let lane_zero = at.enables & 1 == 1;
+        let byte = byte_of(word, 0);
         if self.is(Rule::StageDroppedByOthers) && register.kind == Kind::Stored {
             state.stage = Stage::Empty;
         }
         match register.kind {
-            Kind::Stored => self.stored_write(&mut state.region0[row], register.writable, access),
+            Kind::Stored => self.stored_write(&mut state.region0[row], register.writable, at, word),
             Kind::PaletteAddress => {
                 if lane_zero || self.is(Rule::AddressAnyLane) {
                     self.address_write(state, byte, register.name);
@@ -522,11 +769,11 @@ impl Model {
     }
 
     /// Changes the writable bits in enabled lanes; those become known.
-    fn stored_write(&self, held: &mut Bits, writable: u32, access: &Access) {
-        let mut enabled = lanes(access.enables);
-        let mut word = access.word;
+    fn stored_write(&self, held: &mut Bits, writable: u32, at: &At, written: u32) {
+        let mut enabled = lanes(at.enables);
+        let mut word = written;
         if self.is(Rule::WriteIgnoresEnables)
-            || self.is(Rule::WriteOneEnableIsAll) && access.enables != 0
+            || self.is(Rule::WriteOneEnableIsAll) && at.enables != 0
         {
             enabled = lanes(15);
         }
@@ -553,7 +800,7 @@ impl Model {
         if self.is(Rule::WriteKnowsReserved) {
             held.known |= enabled;
         }
-        if self.is(Rule::WriteKnowsAllLanes) && access.enables != 0 {
+        if self.is(Rule::WriteKnowsAllLanes) && at.enables != 0 {
             held.known |= writable;
         }
         if self.is(Rule::WriteOnlyKnowsOnes) {
@@ -563,11 +810,7 @@ impl Model {
 
     // ----- the RAMDAC's address -----
 
-    fn address_read(&self, state: &mut State, name: &str) -> Bits {
-        if self.is(Rule::AddressReadResets) {
-            state.component = 0;
-            state.stage = Stage::Empty;
-        }
+    fn address_shown(&self, state: &State, name: &str) -> Bits {
         let mut shown = Bits::new(u32::from(state.address), u32::from(state.address_known));
         if self.is(Rule::AddressReadKnown) {
             shown.known = 0xff;
@@ -700,32 +943,52 @@ impl Model {
         usize::from(state.address)
     }
 
-    fn palette_read(&self, state: &mut State) -> Bits {
-        if self.is(Rule::UnknownAddressServed) {
-            state.address_known = 0xff;
-        }
+    /// The component that is next.
+    fn palette_shown(&self, state: &State, act: Act) -> Bits {
+        let look = act == Act::Look;
         let entry = state.palette[self.entry_number(state)];
         let mut component = usize::from(state.component);
+        if self.is(Rule::LookRedOnly) && look {
+            component = 0;
+        }
+        if self.is(Rule::LookBefore) && look {
+            component = (component + 2) % 3;
+        }
         if self.is(Rule::ComponentsReversed) {
             component = 2 - component;
         }
         let stored = self.counts_as_stored(&entry);
-        let shown = if stored {
-            let byte = self.narrowed(state, entry.components[component]);
+        if stored {
+            let whole = self.eight_bits(state) || self.is(Rule::LookEightBits) && look;
+            let byte = entry.components[component];
+            let byte = if whole {
+                byte
+            } else {
+                self.narrowed(state, byte)
+            };
             let six_only = self.is(Rule::SixBitTopUnknown) && !self.eight_bits(state);
             Bits::new(u32::from(byte), if six_only { 0x3f } else { 0xff })
-        } else if self.is(Rule::NeverStoredReadsZero) {
+        } else if self.is(Rule::NeverStoredReadsZero) || self.is(Rule::LookNeverStored) && look {
             Bits::new(0, 0xff)
         } else if self.is(Rule::NeverStoredSixBits) && !self.eight_bits(state) {
             Bits::new(0, 0xc0)
         } else {
             Bits::unknown()
-        };
+        }
+    }
+
+    /// What a palette data read alters.
+    fn palette_step(&self, state: &mut State) {
+        if self.is(Rule::UnknownAddressServed) {
+            state.address_known = 0xff;
+        }
+        if self.is(Rule::ReadIsLook) || self.is(Rule::LookStandsForRead) && self.looked.take() {
+            return;
+        }
         if !self.is(Rule::ReadKeepsStage) {
             state.stage = Stage::Empty;
         }
         self.advance(state, false);
-        shown
     }
 
     /// Stages one component; the third of three staged in order stores all.
@@ -829,7 +1092,7 @@ impl Model {
         index
     }
 
-    fn indexed_read(&self, state: &mut State) -> Bits {
+    fn indexed_shown(&self, state: &State) -> Bits {
         let index = self.index(state);
         let indirect = &self.tables.indirect[index];
         let mut shown = state.indirect[index];
@@ -846,12 +1109,6 @@ impl Model {
         }
         if self.is(Rule::IndexedHighKnown) {
             shown.known |= 0xffff_ff00;
-        }
-        if self.is(Rule::IndexedDropsStage) {
-            state.stage = Stage::Empty;
-        }
-        if self.is(Rule::IndexedReadAdvances) {
-            self.advance(state, false);
         }
         shown
     }
@@ -878,7 +1135,7 @@ impl Model {
 
     // ----- the configuration header -----
 
-    fn header_read(&self, state: &State, offset: u32) -> Bits {
+    fn header_shown(&self, state: &State, offset: u32) -> Bits {
         let place = (offset & 0xfc) as usize / 4;
         if self.is(Rule::IndirectDataWindow) && place == 0xfc / 4 {
             let named = state.header[0xf8 / 4].value;
@@ -889,24 +1146,24 @@ impl Model {
         state.header[place]
     }
 
-    fn header_write(&self, state: &mut State, access: &Access) {
-        let place = (access.offset & 0xfc) as usize / 4;
-        let word = &self.tables.header[place];
-        let mut enabled = lanes(access.enables);
+    fn header_write(&self, state: &mut State, at: &At, word: u32) {
+        let place = (at.offset & 0xfc) as usize / 4;
+        let row = &self.tables.header[place];
+        let mut enabled = lanes(at.enables);
         if self.is(Rule::HeaderIgnoresEnables) {
             enabled = lanes(15);
         }
-        let mut taken = word.writable & enabled;
-        let mut cleared = word.cleared & enabled & access.word;
+        let mut taken = row.writable & enabled;
+        let mut cleared = row.cleared & enabled & word;
         if self.is(Rule::StatusWritable) {
-            taken |= word.cleared & enabled;
+            taken |= row.cleared & enabled;
             cleared = 0;
         }
-        if self.is(Rule::StatusClearsAll) && word.cleared != 0 {
-            cleared |= 0xffff_0000 & enabled & access.word;
+        if self.is(Rule::StatusClearsAll) && row.cleared != 0 {
+            cleared |= 0xffff_0000 & enabled & word;
         }
         let held = &mut state.header[place];
-        held.value = held.value & !taken | access.word & taken;
+        held.value = held.value & !taken | word & taken;
         held.known |= taken;
         if self.is(Rule::StatusSetByOne) {
             held.value |= cleared;
@@ -914,22 +1171,22 @@ impl Model {
             held.value &= !cleared;
         }
         if place as u32 == SUBSYSTEM / 4 {
-            self.subsystem_write(state, access);
+            self.subsystem_write(state, at, word);
         }
     }
 
     /// Each half takes the first write that has both of its lanes.
-    fn subsystem_write(&self, state: &mut State, access: &Access) {
+    fn subsystem_write(&self, state: &mut State, at: &At, word: u32) {
         if self.is(Rule::OnceReadOnly) {
             return;
         }
         let vendor = (0x0000_ffff, 0b0011);
         let id = (0xffff_0000, 0b1100);
         let (vendor_was, id_was) = (state.vendor_fixed, state.id_fixed);
-        if self.fixes(state, vendor, vendor_was, access) {
+        if self.fixes(state, vendor, vendor_was, at, word) {
             state.vendor_fixed = true;
         }
-        if self.fixes(state, id, id_was, access) {
+        if self.fixes(state, id, id_was, at, word) {
             state.id_fixed = true;
         }
         if self.is(Rule::OnceTogether) && (state.vendor_fixed || state.id_fixed) {
@@ -939,15 +1196,22 @@ impl Model {
     }
 
     /// Stores one half of the subsystem word, and says whether it is now fixed.
-    fn fixes(&self, state: &mut State, half: (u32, u32), was_fixed: bool, access: &Access) -> bool {
+    fn fixes(
+        &self,
+        state: &mut State,
+        half: (u32, u32),
+        was_fixed: bool,
+        at: &At,
+        word: u32,
+    ) -> bool {
         let (bits, both) = half;
         let held = &mut state.header[SUBSYSTEM as usize / 4];
         let was = held.value;
-        let mut enables = access.enables;
+        let mut enables = at.enables;
         if self.is(Rule::OnceHalvesSwapped) {
             enables = enables >> 2 | (enables & 3) << 2;
         }
-        let passes = self.is(Rule::OnceTwice) && access.enables == 15;
+        let passes = self.is(Rule::OnceTwice) && at.enables == 15;
         if was_fixed && !passes {
             return true;
         }
@@ -955,12 +1219,12 @@ impl Model {
         let partly = enables & both != 0;
         if whole || partly && (self.is(Rule::OnceByOneLane) || self.is(Rule::OneLaneStores)) {
             let taken = bits & if whole { bits } else { lanes(enables) };
-            held.value = held.value & !taken | access.word & taken;
+            held.value = held.value & !taken | word & taken;
         }
         if self.is(Rule::OnceNever) {
             return false;
         }
-        if self.is(Rule::OnceNeedsFour) && access.enables != 15 {
+        if self.is(Rule::OnceNeedsFour) && at.enables != 15 {
             held.value = was;
             return false;
         }
@@ -972,8 +1236,8 @@ impl Model {
 
     // ----- the apertures -----
 
-    /// How an aperture arranges bytes, by its control register.
-    pub fn order(&self, state: &State, target: u32) -> Order {
+    /// The word of the register that controls an aperture.
+    fn aperture_control(&self, state: &State, target: u32) -> u32 {
         let mut offset = if target == APERTURE_ONE {
             APERTURE_ONE_CONTROL
         } else {
@@ -985,7 +1249,12 @@ impl Model {
         if self.is(Rule::TwoByOne) {
             offset = APERTURE_ONE_CONTROL;
         }
-        let control = self.held(state, offset).value;
+        self.held(state, offset).value
+    }
+
+    /// How an aperture arranges bytes, by its control register.
+    pub fn order(&self, state: &State, target: u32) -> Order {
+        let control = self.aperture_control(state, target);
         let packed = control & 1 << 3 != 0 && !self.is(Rule::PackedServed);
         let svga = control & 1 << 8 != 0 && !self.is(Rule::SvgaServed);
         let rom = control & 1 << 9 != 0 && !self.is(Rule::RomServed);
@@ -1007,15 +1276,19 @@ impl Model {
         }
     }
 
-    /// How the bytes of an access are arranged. Only breaks tell reads from writes
-    /// here or look at the other aperture; not served there, it is standard here.
-    fn order_of(&self, state: &State, access: &Access) -> Order {
-        let target = match access.target {
+    /// How the bytes of an access are arranged. Only breaks tell the three acts
+    /// apart here or go by the other aperture; not served there, it is standard
+    /// here.
+    fn order_of(&self, state: &State, at: &At, act: Act) -> Order {
+        let target = match at.target {
             APERTURE_ONE if self.is(Rule::OneLanesByTwo) => APERTURE_TWO,
             APERTURE_TWO if self.is(Rule::TwoLanesByOne) => APERTURE_ONE,
             own => own,
         };
-        match (self.order(state, target), access.write) {
+        if self.is(Rule::LookPlain) && act == Act::Look {
+            return Order::Standard;
+        }
+        match (self.order(state, target), act == Act::Write) {
             (_, false) if self.is(Rule::SwapReadPlain) => Order::Standard,
             (_, true) if self.is(Rule::SwapWritePlain) => Order::Standard,
             (Order::HalfSwapped, false) if self.is(Rule::HalfSwapReadByte) => Order::ByteSwapped,
@@ -1041,13 +1314,13 @@ impl Model {
     /// The same for an access; reads and writes both ask here. Only breaks look at
     /// more than the order. One break of `lane_for` gives lanes above 3: they move
     /// nothing.
-    fn lane_in(&self, order: Order, access: &Access, number: u32) -> u32 {
+    fn lane_in(&self, order: Order, at: &At, act: Act, number: u32) -> u32 {
         let swapped = order != Order::Standard;
         if self.is(Rule::LaneByWord) || self.is(Rule::SwapLaneByWord) && swapped {
-            return self.lane_for(order, (access.offset / 4 + number) % 4);
+            return self.lane_for(order, (at.offset / 4 + number) % 4);
         }
         if self.is(Rule::HalfSwapTurnsOn) && order == Order::HalfSwapped {
-            let by = if access.write { 1 } else { 3 };
+            let by = if act == Act::Write { 1 } else { 3 };
             return (number + by) % 4;
         }
         self.lane_for(order, number)
@@ -1066,24 +1339,24 @@ impl Model {
         }
     }
 
-    fn aperture_read(&self, state: &State, memory: &[u8], access: &Access) -> Bits {
-        let order = self.order_of(state, access);
+    fn aperture_shown(&self, state: &State, memory: &[u8], at: &At, act: Act) -> Bits {
+        let order = self.order_of(state, at, act);
         let same_lane = self.is(Rule::ByteSwapReadEnable) && order == Order::ByteSwapped
             || self.is(Rule::HalfSwapReadEnable) && order == Order::HalfSwapped;
         let mut shown = Bits::known(0);
         for number in 0..4 {
-            let to = self.lane_in(order, access, number);
-            let byte = match self.place(memory, access.offset, number) {
+            let to = self.lane_in(order, at, act, number);
+            let byte = match self.place(memory, at.offset, number) {
                 Some(place) => memory[place],
                 None => 0,
             };
-            if to > 3 || same_lane && access.enables >> number & 1 == 0 {
+            if to > 3 || same_lane && at.enables >> number & 1 == 0 {
                 continue;
             }
             shown.value |= u32::from(byte) << (8 * to);
         }
         if self.is(Rule::SwapReadPacked) && order != Order::Standard {
-            shown.value = packed(shown.value, access.enables);
+            shown.value = packed(shown.value, at.enables);
         }
         if self.is(Rule::MemoryUnknown) {
             shown.known = shown.value;
@@ -1091,17 +1364,17 @@ impl Model {
         shown
     }
 
-    fn aperture_write(&self, state: &State, memory: &mut [u8], access: &Access) {
-        let order = self.order_of(state, access);
+    fn aperture_write(&self, state: &State, memory: &mut [u8], at: &At, word: u32) {
+        let order = self.order_of(state, at, Act::Write);
         let same_lane = self.is(Rule::ByteSwapEnable) && order == Order::ByteSwapped
             || self.is(Rule::HalfSwapEnable) && order == Order::HalfSwapped;
         let clears = self.is(Rule::SwapWriteClears) && order != Order::Standard;
         let mask = self.held(state, BYPASS_WRITE_MASK);
         for number in 0..4 {
-            let from = self.lane_in(order, access, number);
+            let from = self.lane_in(order, at, Act::Write, number);
             let deciding = if same_lane { number } else { from };
-            let enabled = access.enables >> deciding & 1 == 1 || self.is(Rule::MemoryWriteAllLanes);
-            let Some(place) = self.place(memory, access.offset, number) else {
+            let enabled = at.enables >> deciding & 1 == 1 || self.is(Rule::MemoryWriteAllLanes);
+            let Some(place) = self.place(memory, at.offset, number) else {
                 continue;
             };
             if !enabled {
@@ -1110,7 +1383,7 @@ impl Model {
                 }
                 continue;
             }
-            let byte = byte_of(access.word, from);
+            let byte = byte_of(word, from);
             if self.is(Rule::WriteMaskUsed) {
                 let may = byte_of(mask.value | !mask.known, from);
                 memory[place] = memory[place] & !may | byte & may;

@@ -5,13 +5,16 @@ use std::io::{self, BufReader, Write};
 use std::path::Path;
 
 use crate::breaks::{self, Break};
-use crate::trace::{self, Setup};
+use crate::explain;
+use crate::trace::{self, Program, Setup};
 
 struct Stored {
     name: String,
     input: Vec<u8>,
     answers: Vec<u8>,
     setup: Setup,
+    /// The program whose answers are stored.
+    program: Program,
 }
 
 /// Takes what is written and stops at the first byte that is not expected.
@@ -42,7 +45,7 @@ fn notices(stored: &Stored, broken: Break) -> bool {
         at: 0,
     };
     let mut input = BufReader::new(&stored.input[..]);
-    let run = trace::run(broken, stored.setup, false, &mut input, &mut output);
+    let run = (stored.program)(broken, stored.setup, false, &mut input, &mut output);
     run.is_err() || output.at != stored.answers.len()
 }
 
@@ -67,6 +70,20 @@ pub fn parse_setup(panel: &str, bytes: &str) -> Option<Setup> {
     })
 }
 
+/// The program that a file beside the input names: explain, or, where there is
+/// no such file, the trace program.
+fn program_of(form: &Path) -> Result<Program, String> {
+    if !form.exists() {
+        return Ok(trace::run);
+    }
+    let text = fs::read_to_string(form).map_err(|e| e.to_string())?;
+    match text.trim() {
+        "explain" => Ok(explain::run),
+        "trace" => Ok(trace::run),
+        other => Err(format!("{}: no form {other}", form.display())),
+    }
+}
+
 fn load(folder: &Path) -> Result<Vec<Stored>, String> {
     let listing = fs::read_dir(folder).map_err(|e| e.to_string())?;
     let mut list = Vec::new();
@@ -77,6 +94,7 @@ fn load(folder: &Path) -> Result<Vec<Stored>, String> {
         }
         let input = fs::read(&path).map_err(|e| e.to_string())?;
         let answers = fs::read(path.with_extension("stdout")).map_err(|e| e.to_string())?;
+        let program = program_of(&path.with_extension("form"))?;
         let name = path
             .file_stem()
             .unwrap_or_default()
@@ -88,6 +106,7 @@ fn load(folder: &Path) -> Result<Vec<Stored>, String> {
             input,
             answers,
             setup,
+            program,
         });
     }
     list.sort_by(|a, b| a.name.cmp(&b.name));

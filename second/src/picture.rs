@@ -1,7 +1,7 @@
-//! The picture: what each dot shows, and what an access redraws.
+//! The picture: what each dot shows, and what a write redraws.
 
 use crate::breaks::Rule;
-use crate::model::{Access, Model, APERTURE_ONE, APERTURE_TWO, REGION_ZERO};
+use crate::model::{At, Model};
 use crate::offsets::{
     APERTURE_ONE_CONTROL, INDEXED_DATA, PALETTE_DATA, PIXEL_MASK, SCREEN_BASE, SCREEN_BASE_RIGHT,
     SCREEN_STRIDE, VIDEO_CONTROL,
@@ -213,12 +213,12 @@ impl Model {
     pub fn redraw(
         &self,
         state: &State,
-        access: &Access,
+        at: &At,
         picture: &mut [u32],
         before: &[u32],
         after: &[u32],
     ) -> u32 {
-        if self.redraw_forgotten(state, access) {
+        if self.redraw_forgotten(state, at) {
             return 0;
         }
         let any = before != after;
@@ -253,17 +253,14 @@ impl Model {
         changed
     }
 
-    /// Whether a break leaves out the redrawing after this access.
-    fn redraw_forgotten(&self, state: &State, access: &Access) -> bool {
-        let region0 = access.target == REGION_ZERO;
-        let at = |offset| region0 && access.offset == offset;
-        let mode = at(INDEXED_DATA) && usize::from(state.address) == COLOR_MODE;
-        let memory = access.target == APERTURE_ONE || access.target == APERTURE_TWO;
-        self.is(Rule::PaletteNoRedraw) && at(PALETTE_DATA)
-            || self.is(Rule::MemoryNoRedraw) && memory
-            || self.is(Rule::MaskNoRedraw) && at(PIXEL_MASK)
+    /// Whether a break leaves out the redrawing after this write.
+    fn redraw_forgotten(&self, state: &State, at: &At) -> bool {
+        let mode = at.is_register(INDEXED_DATA) && usize::from(state.address) == COLOR_MODE;
+        self.is(Rule::PaletteNoRedraw) && at.is_register(PALETTE_DATA)
+            || self.is(Rule::MemoryNoRedraw) && at.is_memory()
+            || self.is(Rule::MaskNoRedraw) && at.is_register(PIXEL_MASK)
             || self.is(Rule::ModeNoRedraw) && mode
-            || self.is(Rule::BaseNoRedraw) && at(SCREEN_BASE)
-            || self.is(Rule::StrideNoRedraw) && at(SCREEN_STRIDE)
+            || self.is(Rule::BaseNoRedraw) && at.is_register(SCREEN_BASE)
+            || self.is(Rule::StrideNoRedraw) && at.is_register(SCREEN_STRIDE)
     }
 }

@@ -4,20 +4,34 @@
 use std::io::BufReader;
 
 use crate::bits::Bits;
-use crate::breaks::Break;
+use crate::breaks::{Break, Rule, RULES};
 use crate::check;
+use crate::explain;
 use crate::generate;
-use crate::model::{Access, Answer, Model};
+use crate::model::{Answer, Asked, At, Model, Seen};
 use crate::ppm;
 use crate::rng::Rng;
 use crate::state::{Entry, Stage, State};
+use crate::tables::Tables;
 use crate::trace::{self, Setup};
 
 type Test = fn(&mut Tests);
 
+/// The tests of looks, and of reads and writes apart (02, C-12).
+const LOOK_TESTS: &[(&str, Test)] = &[
+    ("looks at palette data", look_palette),
+    ("looks at registers", look_registers),
+    ("looks at memory", look_memory),
+    ("looks refused", look_refused),
+    ("looks alter nothing", look_alters_nothing),
+    ("reads and writes apart", apart),
+    ("explain", explain_program),
+    ("looks among other lines", look_lines),
+];
+
 /// Runs every test and gives back what was wrong.
 pub fn run(broken: Break, seed: u64, panels: u32, lines: usize) -> Vec<String> {
-    let tests: &[(&str, Test)] = &[
+    let rules: &[(&str, Test)] = &[
         ("values marked P", marked_values),
         ("other values", other_values),
         ("register fields", register_fields),
@@ -48,9 +62,22 @@ pub fn run(broken: Break, seed: u64, panels: u32, lines: usize) -> Vec<String> {
         name: "",
         wrong: Vec::new(),
     };
-    for (name, test) in tests {
+    for (name, test) in rules.iter().chain(LOOK_TESTS) {
         list.name = name;
         test(&mut list);
+    }
+    if broken == Break::Nothing {
+        list.name = "breaks of looks";
+        look_breaks(&mut list);
+    }
+    list.name = "random panels with looks";
+    for number in 0..panels {
+        look_panel(
+            &mut list,
+            seed.wrapping_add(u64::from(number)),
+            number,
+            lines,
+        );
     }
     list.name = "random panels";
     for number in 0..panels {
@@ -117,41 +144,77 @@ struct Bench {
 }
 
 impl Bench {
-    fn access(&mut self, access: &Access) -> Answer {
-        let (answer, verdict) = check::access(
-            &self.model,
-            &mut self.state,
-            &mut self.memory,
-            &mut self.picture,
-            access,
-        );
+    fn carry_out(&mut self, asked: &Asked) -> Answer {
+        match *asked {
+            Asked::Read(at) => self.read_at(at),
+            Asked::Write(at, word) => self.write_at(at, word),
+            Asked::Look(at) => {
+                let seen = self.look_at(at);
+                Answer {
+                    status: seen.status,
+                    word: seen.word,
+                    known: seen.known,
+                    changed: 0,
+                }
+            }
+        }
+    }
+
+    fn note(&mut self, verdict: Result<(), String>) {
         if let Err(text) = verdict {
             self.complaints.push(text);
         }
+    }
+
+    fn read_at(&mut self, at: At) -> Answer {
+        let (state, memory, picture) = (&mut self.state, &self.memory, &self.picture);
+        let (answer, verdict) = check::read(&self.model, state, memory, picture, at);
+        self.note(verdict);
         answer
+    }
+
+    fn write_at(&mut self, at: At, word: u32) -> Answer {
+        let (state, memory, picture) = (&mut self.state, &mut self.memory, &mut self.picture);
+        let (answer, verdict) = check::write(&self.model, state, memory, picture, at, word);
+        self.note(verdict);
+        answer
+    }
+
+    fn look_at(&mut self, at: At) -> Seen {
+        let (state, memory, picture) = (&mut self.state, &self.memory, &mut self.picture);
+        let (seen, verdict) = check::look(&self.model, state, memory, picture, at);
+        self.note(verdict);
+        seen
     }
 
     /// Status, word and known mask of a read.
     fn read(&mut self, target: u32, offset: u32, enables: u32) -> (u32, u32, u32) {
-        let answer = self.access(&Access {
-            write: false,
+        let answer = self.read_at(At {
             target,
             offset,
             enables,
-            word: 0,
         });
         (answer.status, answer.word, answer.known)
     }
 
-    /// Status and changed count of a write.
-    fn write(&mut self, target: u32, offset: u32, enables: u32, word: u32) -> (u32, u32) {
-        let answer = self.access(&Access {
-            write: true,
+    /// Status, word and known mask of a look.
+    fn look(&mut self, target: u32, offset: u32, enables: u32) -> (u32, u32, u32) {
+        let seen = self.look_at(At {
             target,
             offset,
             enables,
-            word,
         });
+        (seen.status, seen.word, seen.known)
+    }
+
+    /// Status and changed count of a write.
+    fn write(&mut self, target: u32, offset: u32, enables: u32, word: u32) -> (u32, u32) {
+        let at = At {
+            target,
+            offset,
+            enables,
+        };
+        let answer = self.write_at(at, word);
         (answer.status, answer.changed)
     }
 
@@ -1528,10 +1591,540 @@ fn picture_files(tests: &mut Tests) {
     }
 }
 
-/// Random accesses on a panel of some size, over random memory and from a
-/// state that somebody made, with dots altered now and then.
-fn random_panel(tests: &mut Tests, seed: u64, number: u32, lines: usize) {
-    let mut rng = Rng::new(seed ^ 0x5eed);
+// ----- looks -----
+
+/// A look repeated, which must answer the same, and then the same read.
+fn looks_then_read(
+    tests: &mut Tests,
+    b: &mut Bench,
+    what: &str,
+    at: (u32, u32, u32),
+    expected: (u32, u32, u32),
+) {
+    let (target, offset, enables) = at;
+    tests.equal(what, b.look(target, offset, enables), expected);
+    tests.equal(what, b.look(target, offset, enables), expected);
+    tests.equal(what, b.read(target, offset, enables), expected);
+}
+
+fn look_palette(tests: &mut Tests) {
+    const DATA: (u32, u32, u32) = (0, 0x4008, 15);
+    let mut b = tests.usual();
+    // Before an address is set.
+    for enables in [15, 1, 14, 0] {
+        tests.equal("no address", b.look(0, 0x4008, enables), (5, 0, 0));
+        tests.equal("no address", b.look(0, 0x4050, enables), (5, 0, 0));
+    }
+    tests.equal("no address", b.look(0, 0x4000, 15), (0, 0, 0));
+    // Eight bits, entry 5 stored and entry 6 not.
+    b.index(0x1e, 2);
+    b.entry(5, [0x11, 0xa2, 0xf3]);
+    b.write(0, 0x4018, 1, 5);
+    for (what, byte) in [("red", 0x11), ("green", 0xa2), ("blue", 0xf3)] {
+        tests.equal(what, b.look(0, 0x4008, 14), (0, 0, 0));
+        tests.equal("the address", b.look(0, 0x4000, 15), (0, 5, 0xff));
+        looks_then_read(tests, &mut b, what, DATA, (0, byte, 0xff));
+    }
+    tests.equal("the next entry", b.look(0, 0x4018, 15), (0, 6, 0xff));
+    looks_then_read(tests, &mut b, "never stored", DATA, (0, 0, 0));
+    looks_then_read(tests, &mut b, "never stored", DATA, (0, 0, 0));
+    tests.equal("the same entry", b.read(0, 0x4018, 15), (0, 6, 0xff));
+    // Without a look before it a read steps too, and with one only once.
+    b.write(0, 0x4000, 1, 5);
+    tests.equal("a read", b.read(0, 0x4008, 15), (0, 0x11, 0xff));
+    tests.equal("a read", b.read(0, 0x4008, 15), (0, 0xa2, 0xff));
+    tests.equal("a look", b.look(0, 0x4008, 15), (0, 0xf3, 0xff));
+    tests.equal("a read", b.read(0, 0x4008, 15), (0, 0xf3, 0xff));
+    tests.equal("the next entry", b.read(0, 0x4018, 15), (0, 6, 0xff));
+    // The width counts for a look as for a read.
+    b.index(0x1e, 0);
+    b.write(0, 0x4000, 1, 5);
+    for byte in [0x11 / 4, 0xa2 / 4, 0xf3 / 4] {
+        looks_then_read(tests, &mut b, "six bits", DATA, (0, byte, 0xff));
+    }
+    tests.done(b);
+
+    // A load with looks between its writes stores, and its second write shows
+    // nothing yet.
+    let places = [
+        (0, 0x4008, 15),
+        (0, 0x4008, 14),
+        (0, 0x4000, 15),
+        (0, 0x4050, 15),
+        (0, 0x4010, 15),
+        (1, 0, 15),
+        (3, 0x2c, 15),
+        (0, 0x4004, 15),
+        (9, 3, 99),
+    ];
+    for (target, offset, enables) in places {
+        let mut b = tests.usual();
+        b.index(0x1e, 2);
+        b.write(0, 0x4000, 1, 0x18);
+        for byte in [1, 2, 3] {
+            b.look(target, offset, enables);
+            b.write(0, 0x4008, 1, byte);
+            b.look(target, offset, enables);
+        }
+        let what = format!("a load with looks at {target} {offset:x}");
+        let stored = Entry {
+            stored: true,
+            components: [1, 2, 3],
+        };
+        tests.equal(&what, b.state.palette[0x18], stored);
+        tests.equal(&what, b.read(0, 0x4000, 1), (0, 0x19, 0xff));
+        tests.done(b);
+    }
+    // Where a read does break it.
+    let mut b = tests.usual();
+    b.write(0, 0x4000, 1, 7);
+    b.write(0, 0x4008, 1, 1);
+    b.look(0, 0x4008, 1);
+    b.read(0, 0x4008, 1);
+    b.write(0, 0x4008, 1, 3);
+    tests.equal("a load with a read", b.state.palette[7].stored, false);
+    tests.done(b);
+}
+
+fn look_registers(tests: &mut Tests) {
+    let mut b = tests.usual();
+    for &(offset, _, unknown, reset) in FIELDS {
+        for enables in 0..16 {
+            let lanes = covered(enables);
+            let expected = (0, reset & lanes, !mask(unknown) & lanes);
+            let what = format!("{offset:x}h, enables {enables:x}");
+            tests.equal(&what, b.look(0, offset, enables), expected);
+        }
+    }
+    for &(offset, writable, unknown, reset) in FIELDS {
+        let (writable, known) = (mask(writable), !mask(unknown));
+        b.write(0, offset, 15, 0x5a3c_96e1);
+        let value = reset & !writable | 0x5a3c_96e1 & writable;
+        let at = (0, offset, 15);
+        let expected = (0, value, known | writable);
+        looks_then_read(tests, &mut b, &format!("{offset:x}h"), at, expected);
+    }
+    for offset in [0x1140, 0x1180] {
+        looks_then_read(tests, &mut b, "read only", (0, offset, 15), (0, 0, 0));
+    }
+    for offset in (0x1c..=0x24).step_by(4).chain([0x38, 0x50, 0xf4]) {
+        looks_then_read(tests, &mut b, "blank", (3, offset, 15), (0, 0, ALL));
+    }
+    looks_then_read(
+        tests,
+        &mut b,
+        "header",
+        (3, 0, 6),
+        (0, 0x0007_3d00, 0xff_ff00),
+    );
+    looks_then_read(tests, &mut b, "pins", (3, 0x34, 15), (0, 0, !0x40));
+    // A look fixes nothing.
+    looks_then_read(tests, &mut b, "once", (3, 0x2c, 15), (0, 0x0007_3d3d, ALL));
+    b.write(3, 0x2c, 15, 0x1234_5678);
+    looks_then_read(tests, &mut b, "once", (3, 0x2c, 15), (0, 0x1234_5678, ALL));
+    // Indexed data stays where it is.
+    b.index(0x06, 0x55);
+    for enables in [15, 1] {
+        looks_then_read(
+            tests,
+            &mut b,
+            "index",
+            (0, 0x4050, enables),
+            (0, 0x55, 0xff),
+        );
+    }
+    looks_then_read(tests, &mut b, "index", (0, 0x4050, 14), (0, 0, 0));
+    tests.equal("the address", b.read(0, 0x4000, 15), (0, 0x06, 0xff));
+    b.write(0, 0x4000, 1, 0x29);
+    looks_then_read(tests, &mut b, "clock status", (0, 0x4050, 15), (0, 0, 0));
+    tests.done(b);
+}
+
+fn look_memory(tests: &mut Tests) {
+    for (target, control) in [(1, 0x50), (2, 0x58)] {
+        let mut b = tests.usual();
+        b.write(target, 4, 15, 0x4433_2211);
+        let orders = [0x4433_2211, 0x1122_3344, 0x2211_4433];
+        for (code, word) in orders.into_iter().enumerate() {
+            b.write(0, control, 15, code as u32);
+            for enables in 0..16 {
+                let lanes = covered(enables);
+                let what = format!("code {code}, enables {enables:x}");
+                let at = (target, 4, enables);
+                looks_then_read(tests, &mut b, &what, at, (0, word & lanes, lanes));
+            }
+        }
+        for mode in [3, 8, 0x100, 0x200] {
+            b.write(0, control, 15, mode);
+            for enables in [15, 0] {
+                looks_then_read(tests, &mut b, "mode", (target, 4, enables), (7, 0, 0));
+            }
+            looks_then_read(tests, &mut b, "5 before 7", (target, 16, 15), (5, 0, 0));
+            looks_then_read(tests, &mut b, "4 before 7", (target, 6, 15), (4, 0, 0));
+        }
+        tests.done(b);
+    }
+}
+
+fn look_refused(tests: &mut Tests) {
+    let mut b = tests.usual();
+    b.write(0, 0x4000, 1, 0x20);
+    let cases = [
+        ("target 4", (4, 0, 15), 3),
+        ("target 9, unaligned", (9, 1, 15), 3),
+        ("enables 16", (0, 0x1040, 16), 3),
+        ("enables 16, unaligned", (0, 0x1041, 16), 3),
+        ("enables 31, absent", (0, 0x4004, 31), 3),
+        ("unaligned", (0, 0x1042, 15), 4),
+        ("unaligned, absent", (0, 0x4001, 15), 4),
+        ("unaligned, beyond", (1, 17, 15), 4),
+        ("unaligned header", (3, 2, 15), 4),
+        ("absent", (0, 0x4058, 15), 5),
+        ("absent, no lanes", (0, 0x4058, 0), 5),
+        ("twice", (0, 0x1_1040, 15), 5),
+        ("beyond", (1, 16, 15), 5),
+        ("beyond, no lanes", (2, 16, 0), 5),
+        ("above the header", (3, 0x100, 15), 5),
+        ("write only", (0, 0x4050, 15), 6),
+        ("write only, no lane 0", (0, 0x4050, 14), 6),
+    ];
+    for (what, at, status) in cases {
+        looks_then_read(tests, &mut b, what, at, (status, 0, 0));
+    }
+    b.write(0, 0x4000, 1, 0x45);
+    looks_then_read(tests, &mut b, "no index", (0, 0x4050, 15), (5, 0, 0));
+    tests.done(b);
+
+    // Buffers of the wrong length, and what is no state.
+    for (dots, bytes) in [(3, 16), (5, 16), (4, 8), (4, 24)] {
+        let mut b = tests.usual();
+        b.memory.resize(bytes, 1);
+        b.picture.resize(dots, 2);
+        let what = format!("{dots} dots, {bytes} bytes");
+        looks_then_read(tests, &mut b, &what, (0, 0x1040, 15), (2, 0, 0));
+        looks_then_read(tests, &mut b, "2 before 3", (4, 1, 16), (2, 0, 0));
+        b.state.address = 1;
+        looks_then_read(tests, &mut b, "1 before 2", (4, 1, 16), (1, 0, 0));
+        tests.done(b);
+    }
+    let mut b = tests.usual();
+    b.state.address = 1;
+    looks_then_read(tests, &mut b, "no state", (0, 0x1040, 15), (1, 0, 0));
+    tests.done(b);
+}
+
+/// A look leaves a picture that somebody altered, and every state.
+fn look_alters_nothing(tests: &mut Tests) {
+    let mut b = tests.bench(4, 2, 16);
+    b.live(0, 1);
+    b.entry(0, [1, 2, 3]);
+    b.picture = vec![9, 8, 7, 6, 5, 4, 3, 2];
+    for (target, offset) in [(0, 0x4008), (0, 0x1040), (1, 0), (3, 0), (0, 0x4004)] {
+        b.look(target, offset, 15);
+    }
+    tests.equal("altered", b.picture.clone(), vec![9, 8, 7, 6, 5, 4, 3, 2]);
+    // A stage that no accesses lead to stays as well.
+    for stage in [Stage::Empty, Stage::Red(7), Stage::RedGreen(8, 9)] {
+        for component in 0..3 {
+            b.state.stage = stage;
+            b.state.component = component;
+            for enables in [15, 14] {
+                b.look(0, 0x4008, enables);
+                b.look(0, 0x4000, enables);
+            }
+            tests.equal(
+                "stage",
+                (b.state.stage, b.state.component),
+                (stage, component),
+            );
+        }
+    }
+    tests.done(b);
+}
+
+/// Each of the two has its own refusals and its own answer.
+fn apart(tests: &mut Tests) {
+    let mut b = tests.usual();
+    for offset in [0x1140, 0x1180] {
+        tests.equal("read only, read", b.read(0, offset, 15), (0, 0, 0));
+        tests.equal("read only, written", b.write(0, offset, 15, 0), (6, 0));
+    }
+    b.write(0, 0x4000, 1, 0x30);
+    tests.equal("write only, written", b.write(0, 0x4050, 15, 1), (0, 0));
+    tests.equal("write only, read", b.read(0, 0x4050, 15), (6, 0, 0));
+    let at = At {
+        target: 0,
+        offset: 0x1040,
+        enables: 15,
+    };
+    let answer = b.write_at(at, ALL);
+    tests.equal("a write", (answer.word, answer.known), (0, 0));
+    // A read steps and drops what is staged; it alters no dot.
+    b.entry(9, [1, 2, 3]);
+    b.write(0, 0x4000, 1, 9);
+    b.write(0, 0x4008, 1, 40);
+    tests.equal("a read", b.read(0, 0x4008, 1), (0, 2, 0xff));
+    tests.equal(
+        "a read",
+        (b.state.stage, b.state.component),
+        (Stage::Empty, 2),
+    );
+    b.picture = vec![1, 2, 3, 4];
+    tests.equal("a read", b.read_at(at).changed, 0);
+    tests.equal("a read", b.picture.clone(), vec![1, 2, 3, 4]);
+    b.picture.pop();
+    tests.equal("a short picture", b.read(0, 0x1040, 15), (2, 0, 0));
+    tests.done(b);
+}
+
+/// What explain writes for lines, its first line left out.
+fn explained(tests: &Tests, input: &str) -> String {
+    let mut output = Vec::new();
+    let mut input = BufReader::new(input.as_bytes());
+    match explain::run(tests.broken, trace::USUAL, true, &mut input, &mut output) {
+        Ok(_) => {
+            let text = String::from_utf8_lossy(&output).into_owned();
+            match text.strip_prefix("PERMEDIA2 4x1 16\n") {
+                Some(rest) => rest.to_string(),
+                None => text,
+            }
+        }
+        Err(failure) => format!("{failure:?}"),
+    }
+}
+
+const BAD: &str = "bad line: expected is r TARGET OFFSET ENABLES, w TARGET OFFSET ENABLES WORD, or l TARGET OFFSET ENABLES";
+
+fn explain_program(tests: &mut Tests) {
+    // A line, and what is written for it, one after another.
+    let lines = [
+        ("l 0 4008 f", "look  RDPaletteData: refused as 5, nothing is there"),
+        ("r 0 4050 1", "read  RDIndexedData (enables 1): refused as 5, nothing is there"),
+        ("r 0 4000 F", "read  RDPaletteWriteAddress = ????????, nothing of it is known"),
+        ("w 0 4018 1 1e", "write RDPaletteReadAddress 0000001e (enables 1)"),
+        ("l 0 4018 f", "look  RDPaletteReadAddress = ??????1e"),
+        ("w 0 4050 f 2", "write RDIndexedData index 1e RDMiscControl 00000002"),
+        ("l 0 4050 f", "look  RDIndexedData index 1e RDMiscControl = ??????02"),
+        ("l 0 4050 e", "look  RDIndexedData index 1e RDMiscControl (enables e) = ????????, nothing of it is known"),
+        ("w 0 4000 1 18", "write RDPaletteWriteAddress 00000018 (enables 1)"),
+        ("w 0 4050 1 10", "write RDIndexedData index 18 RDColorMode 00000010 (enables 1), 4 dots changed"),
+        ("w 0 3000 f 0", "write ScreenBase 00000000"),
+        ("w 0 3008 f 0", "write ScreenStride 00000000, 4 dots changed"),
+        ("w 1 0 2 ff00", "write aperture one byte 0 0000ff00 (enables 2)"),
+        ("w 0 4000 1 ff", "write RDPaletteWriteAddress 000000ff (enables 1)"),
+        ("l 0 4008 f", "look  RDPaletteData entry ff red = ????????, nothing of it is known"),
+        ("w 0 4008 f 11", "write RDPaletteData entry ff red 00000011"),
+        ("w 0 4008 f 22", "write RDPaletteData entry ff green 00000022"),
+        ("l 0 4008 f", "look  RDPaletteData entry ff blue = ????????, nothing of it is known"),
+        ("w 0 4008 f 33", "write RDPaletteData entry ff blue 00000033, 1 dot changed"),
+        ("r 0 4008 f", "read  RDPaletteData entry 0 red = ????????, nothing of it is known"),
+        ("w 0 4018 1 ff", "write RDPaletteReadAddress 000000ff (enables 1)"),
+        ("l 0 4008 f", "look  RDPaletteData entry ff red = ??????11"),
+        ("l 0 4008 f", "look  RDPaletteData entry ff red = ??????11"),
+        ("r 0 4008 f", "read  RDPaletteData entry ff red = ??????11"),
+        ("r 0 4008 1", "read  RDPaletteData entry ff green (enables 1) = ??????22"),
+        ("l 0 4050 f", "look  RDIndexedData index ff: refused as 5, nothing is there"),
+        ("w 0 4018 1 20", "write RDPaletteReadAddress 00000020 (enables 1)"),
+        ("l 0 4050 f", "look  RDIndexedData index 20 RDPixelClockA1: refused as 6, not readable, or not writable"),
+        ("w 0 1180 f 1", "write Count 00000001: refused as 6, not readable, or not writable"),
+        ("l 0 1180 f", "look  Count = ????????, nothing of it is known"),
+        ("l 0 e8 f", "look  ByDMAComplete = 0000000?"),
+        ("l 0 3058 f", "look  VideoControl = 000?????"),
+        ("w 0 58 f 1", "write ApertureTwo 00000001"),
+        ("l 2 0 f", "look  aperture two byte 0 = 00ff0000"),
+        ("r 2 c 6", "read  aperture two byte c (enables 6) = ??0000??"),
+        ("w 0 58 f 3", "write ApertureTwo 00000003"),
+        ("l 2 c 0", "look  aperture two byte c (enables 0): refused as 7, the aperture's mode is not served"),
+        ("l 2 10 f", "look  aperture two byte 10: refused as 5, nothing is there"),
+        ("r 2 10 f", "read  aperture two byte 10: refused as 5, nothing is there"),
+        ("r 2 0000ABCC 1", "read  aperture two byte abcc (enables 1): refused as 5, nothing is there"),
+        ("r 2 FFFFFFFC f", "read  aperture two byte fffffffc: refused as 5, nothing is there"),
+        ("w 2 10 c ABCDEF01", "write aperture two byte 10 abcdef01 (enables c): refused as 5, nothing is there"),
+        ("r 2 6 f", "read  aperture two byte 6: refused as 4, the offset is no multiple of 4"),
+        ("r 2 13 f", "read  aperture two byte 13: refused as 4, the offset is no multiple of 4"),
+        ("r 2 0 1f", "read  aperture two byte 0 (enables 1f): refused as 3, no such target, or enables above 15"),
+        ("r 2 13 0000001F", "read  aperture two byte 13 (enables 1f): refused as 3, no such target, or enables above 15"),
+        ("l 1 a f", "look  aperture one byte a: refused as 4, the offset is no multiple of 4"),
+        ("l 1 d f", "look  aperture one byte d: refused as 4, the offset is no multiple of 4"),
+        ("w 1 ffffffff f 0", "write aperture one byte ffffffff 00000000: refused as 4, the offset is no multiple of 4"),
+        ("w 1 10 f 0", "write aperture one byte 10 00000000: refused as 5, nothing is there"),
+        ("l 1 c FFFFFFFF", "look  aperture one byte c (enables ffffffff): refused as 3, no such target, or enables above 15"),
+        ("l 4 0 f", "look  target 4 offset 0: refused as 3, no such target, or enables above 15"),
+        ("r 0 4050 1f", "read  RDIndexedData index 20 RDPixelClockA1 (enables 1f): refused as 3, no such target, or enables above 15"),
+        ("l 0 4008 10", "look  RDPaletteData entry 20 red (enables 10): refused as 3, no such target, or enables above 15"),
+        ("r 0 1002 f", "read  target 0 offset 1002: refused as 4, the offset is no multiple of 4"),
+        ("l 0 4004 f", "look  target 0 offset 4004: refused as 5, nothing is there"),
+        ("l 9 1040 f", "look  target 9 offset 1040: refused as 3, no such target, or enables above 15"),
+        ("w 0 1040 1f 0", "write MemControl 00000000 (enables 1f): refused as 3, no such target, or enables above 15"),
+        ("l 3 0 f", "look  CFGVendorId/CFGDeviceId = 00073d3d"),
+        ("l 3 34 3", "look  CFGCapPtr (enables 3) = ????00?0"),
+        ("l 3 000001C f", "look  target 3 offset 1c = 00000000"),
+        ("w 3 1c f ABCDEF01", "write target 3 offset 1c abcdef01"),
+        ("l 3 100 f", "look  target 3 offset 100: refused as 5, nothing is there"),
+        ("l 3 2 f", "look  target 3 offset 2: refused as 4, the offset is no multiple of 4"),
+        ("", BAD),
+        ("L 0 1040 f", BAD),
+        ("l 0 1040 f 0", BAD),
+        ("l 0 1040", BAD),
+        ("l  0 1040 f", BAD),
+        ("l 0 1040 f ", BAD),
+        ("l", BAD),
+        ("look 0 1040 f", BAD),
+        ("l 00 1040 f", BAD),
+        ("l 0 000001040 f", BAD),
+        ("R 0 1040 f", BAD),
+        ("W 0 1040 f 10", BAD),
+        ("r 0 1040 f 0", BAD),
+        ("w 0 1040 f", BAD),
+        ("l 0 1040 f\r", BAD),
+        ("l 0 1040 0x1", BAD),
+        ("l 0 1040 f", "look  MemControl = 00000000"),
+    ];
+    let mut input = String::new();
+    let mut expected = String::new();
+    for (line, answer) in lines {
+        input += &format!("{line}\n");
+        expected += &format!("{answer}\n");
+    }
+    let got = explained(tests, &input);
+    for (got, expected) in got.lines().zip(expected.lines()) {
+        tests.equal("a line", got, expected);
+    }
+    tests.equal("the lines", got.lines().count(), expected.lines().count());
+    // The last newline may be missing, and a long line is bad.
+    tests.equal(
+        "no newline",
+        explained(tests, "l 0 1080 f"),
+        "look  BootAddress = 00000031\n".to_string(),
+    );
+    long_looks(tests);
+    tests.equal("nothing", explained(tests, ""), String::new());
+    // The trace program takes none of this.
+    for line in ["l 0 1040 f", "l 0 4008 f", "L 0 1040 f", "l 9 0 f"] {
+        let expected = "PERMEDIA2 4x1 16\nbad\n".to_string();
+        tests.equal(line, printed(tests, line.as_bytes()), expected);
+    }
+    every_name(tests);
+}
+
+/// A line may have 64 bytes. No line of the form has as many, so one of 64 bytes is
+/// bad by its form, and one of 65 by its length as well: each is one bad line.
+fn long_looks(tests: &mut Tests) {
+    for bytes in [64, 65, 128, 129] {
+        for line in [
+            format!("l 0 1080 {:0>1$}", "f", bytes - 9),
+            format!("{:bytes$}", "l 0 1080 f"),
+            format!("{:0>bytes$}", "l 0 1080 f"),
+        ] {
+            tests.equal("bytes", line.len(), bytes);
+            let expected = format!("{BAD}\nlook  BootAddress = 00000031\n");
+            let got = explained(tests, &format!("{line}\nl 0 1080 f\n"));
+            tests.equal("a long look", got, expected);
+            tests.equal("the last", explained(tests, &line), format!("{BAD}\n"));
+        }
+    }
+}
+
+/// Every register is named, and nothing else is.
+fn every_name(tests: &mut Tests) {
+    let tables = Tables::sound();
+    for (index, register) in tables.indirect.iter().enumerate() {
+        let got = explained(tests, &format!("w 0 4000 1 {index:x}\nl 0 4050 f\n"));
+        let start = format!("look  RDIndexedData index {index:x} RD");
+        let line = got.lines().nth(1).unwrap_or("");
+        tests.equal("an index", line.starts_with(&start), register.exists);
+    }
+    for (word, register) in tables.header.iter().enumerate() {
+        let offset = 4 * word;
+        let got = explained(tests, &format!("l 3 {offset:x} f\n"));
+        // CFGCardBus is a register of which nothing shows.
+        let blank = register.writable | register.cleared == 0
+            && register.reset == Bits::known(0)
+            && offset != 0x28;
+        tests.equal("a header word", got.starts_with("look  CFG"), !blank);
+    }
+}
+
+/// Looks among the lines of traces, on the usual panel and another.
+fn look_lines(tests: &mut Tests) {
+    for number in 0..6 {
+        look_panel(tests, 900 + u64::from(number), number, 250);
+    }
+}
+
+/// Every break from 02, C-12 on is noticed by the tests of looks alone.
+fn look_breaks(tests: &mut Tests) {
+    let first = RULES.iter().position(|r| r.0 == Rule::LookIsRead);
+    for (rule, text) in &RULES[first.unwrap_or(0)..] {
+        let mut list = Tests {
+            broken: Break::Rule(*rule),
+            name: "",
+            wrong: Vec::new(),
+        };
+        for (_, test) in LOOK_TESTS {
+            test(&mut list);
+        }
+        if list.wrong.is_empty() {
+            tests.complain(format!("not noticed: {text}"));
+        }
+    }
+}
+
+/// A trace with looks, run as it is and with the looks left out: every other line
+/// is answered alike, and state, memory and picture are the same after each. Now
+/// and then a look is followed by its read, in both.
+fn look_panel(tests: &mut Tests, seed: u64, number: u32, lines: usize) {
+    let mut rng = Rng::new(seed ^ 0x100c);
+    let setup = panel_size(&mut rng, number);
+    let mut looking = tests.bench(setup.width, setup.height, setup.memory_bytes);
+    for byte in &mut looking.memory {
+        *byte = rng.byte();
+    }
+    if rng.chance(1, 2) {
+        made_state(&mut looking, &mut rng);
+    }
+    let mut plain = tests.bench(setup.width, setup.height, setup.memory_bytes);
+    plain.state = looking.state.clone();
+    plain.memory = looking.memory.clone();
+    plain.picture = looking.picture.clone();
+
+    let text = generate::trace(seed, lines, setup, true);
+    for line in text.split(|byte| *byte == b'\n') {
+        let Some(asked) = trace::parse(line, true, &Break::Nothing) else {
+            continue;
+        };
+        if let Asked::Look(at) = asked {
+            let seen = looking.look_at(at);
+            if rng.chance(1, 2) {
+                continue;
+            }
+            for bench in [&mut looking, &mut plain] {
+                let answer = bench.read_at(at);
+                let read = (answer.status, answer.word, answer.known);
+                let what = format!("seed {seed}: the read after {asked:x?}");
+                tests.equal(&what, read, (seen.status, seen.word, seen.known));
+            }
+        } else {
+            let what = format!("seed {seed}: {asked:x?}");
+            let answers = (looking.carry_out(&asked), plain.carry_out(&asked));
+            tests.equal(&what, answers.0, answers.1);
+        }
+        let same = looking.state == plain.state
+            && looking.memory == plain.memory
+            && looking.picture == plain.picture;
+        if !same {
+            tests.complain(format!("seed {seed}: looks alter something by {asked:x?}"));
+        }
+        if !same || looking.complaints.len() > 3 {
+            break;
+        }
+    }
+    tests.done(looking);
+    tests.done(plain);
+}
+
+/// The panels of the random tests: some that are named, then any.
+fn panel_size(rng: &mut Rng, number: u32) -> Setup {
     let fixed = [
         (1, 1, 8),
         (1, 64, 64),
@@ -1554,30 +2147,38 @@ fn random_panel(tests: &mut Tests, seed: u64, number: u32, lines: usize) {
             (width, height, 8 * (1 + rng.below(80)))
         }
     };
-    let setup = Setup {
+    Setup {
         width,
         height,
         memory_bytes,
-    };
-    let mut b = tests.bench(width, height, memory_bytes);
+    }
+}
+
+/// Random accesses on a panel of some size, over random memory and from a
+/// state that somebody made, with dots altered now and then.
+fn random_panel(tests: &mut Tests, seed: u64, number: u32, lines: usize) {
+    let mut rng = Rng::new(seed ^ 0x5eed);
+    let setup = panel_size(&mut rng, number);
+    let (width, height) = (setup.width, setup.height);
+    let mut b = tests.bench(width, height, setup.memory_bytes);
     for byte in &mut b.memory {
         *byte = rng.byte();
     }
     if rng.chance(1, 2) {
         made_state(&mut b, &mut rng);
     }
-    let text = generate::trace(seed, lines, setup);
+    let text = generate::trace(seed, lines, setup, false);
     for line in text.split(|byte| *byte == b'\n') {
-        let Some(access) = trace::parse(line, &Break::Nothing) else {
+        let Some(asked) = trace::parse(line, false, &Break::Nothing) else {
             continue;
         };
         if rng.chance(1, 10) {
             let place = rng.below(width * height) as usize;
             b.picture[place] = rng.pick(&[0, 0x0100_0000, 0x0400_0000, 0x0300_0000, 0xffff_ffff]);
         }
-        let status = b.access(&access).status;
+        let status = b.carry_out(&asked).status;
         if !(status == 0 || (3..=7).contains(&status)) {
-            tests.complain(format!("seed {seed}: status {status} for {access:?}"));
+            tests.complain(format!("seed {seed}: status {status} for {asked:?}"));
         }
         if b.complaints.len() > 3 {
             break;

@@ -4,7 +4,7 @@ use std::io::BufReader;
 
 use crate::bits::byte_of;
 use crate::breaks::{Break, Rule};
-use crate::model::{Access, Model, APERTURE_ONE, APERTURE_TWO, DONE, REGION_ZERO};
+use crate::model::{Act, Answer, Asked, At, Model, DONE};
 use crate::offsets::PALETTE_DATA;
 use crate::state::{Stage, State};
 use crate::tables::MISC_CONTROL;
@@ -21,6 +21,31 @@ pub struct Stats {
     pub telling: usize,
     pub six: Six,
     pub lanes: Lanes,
+    /// Only where looks are counted.
+    pub looks: Option<Looks>,
+}
+
+/// How often a trace looks (02, C-12).
+#[derive(Default)]
+pub struct Looks {
+    pub looks: usize,
+    pub by_status: [usize; 10],
+    /// Looks at palette data that were done and had lane 0, by the component
+    /// that was next.
+    pub palette: [usize; 3],
+    /// Looks that showed something known.
+    pub telling: usize,
+    /// Looks with the same read as the next line.
+    pub followed: usize,
+    /// Looks with the same look as the line before.
+    pub repeated: usize,
+    /// Looks while a palette load is under way, whose next write came later
+    /// with nothing between that ends it.
+    pub between: usize,
+    /// The line before, if it was a look.
+    before: Option<At>,
+    /// Looks since red or green was staged.
+    waiting: usize,
 }
 
 /// How often a trace touches what 02, C-13 says of six bits.
@@ -70,7 +95,7 @@ struct Written {
 }
 
 /// Runs a trace and counts.
-pub fn of(trace: &[u8], setup: Setup) -> Result<Stats, String> {
+pub fn of(trace: &[u8], setup: Setup, looks: bool) -> Result<Stats, String> {
     let mut machine = Machine::open(Break::Nothing, setup, false)?;
     let mut earlier = Machine::open(Break::Rule(Rule::SixBitFourTimes), setup, false)?;
     let mut stats = Stats {
@@ -82,37 +107,45 @@ pub fn of(trace: &[u8], setup: Setup) -> Result<Stats, String> {
         telling: 0,
         six: Six::default(),
         lanes: Lanes::new(setup.memory_bytes),
+        looks: looks.then(Looks::default),
     };
     let mut lines = Lines::new(Break::Nothing);
     let mut input = BufReader::new(trace);
     while let Some(line) = lines.next(&mut input).map_err(|e| e.to_string())? {
         stats.lines += 1;
-        let Some(access) = trace::parse(&line, &Break::Nothing) else {
+        let Some(asked) = trace::parse(&line, looks, &Break::Nothing) else {
             stats.bad += 1;
+            if let Some(looks) = &mut stats.looks {
+                looks.before = None;
+            }
             continue;
         };
-        let completed = completed_next(machine.state());
-        let answer = machine.access(&access)?;
-        let answer_earlier = earlier.access(&access)?;
+        let old = machine.state().clone();
+        let answer = machine.carry_out(&asked)?;
+        let answer_earlier = earlier.carry_out(&asked)?;
+        if let Some(looks) = &mut stats.looks {
+            looks.count(&asked, &answer, &old, machine.state());
+        }
+        if asked.act() == Act::Look {
+            continue;
+        }
+        let at = asked.at();
         stats.by_status[answer.status as usize] += 1;
         if answer.changed != 0 {
             stats.changing += 1;
         }
-        if !access.write && answer.status == DONE {
+        if asked.act() == Act::Read && answer.status == DONE {
             stats.reads += 1;
             if answer.known != 0 {
                 stats.telling += 1;
             }
         }
-        let palette_data = access.target == REGION_ZERO && access.offset == PALETTE_DATA;
-        if palette_data && access.write && access.enables & 1 == 1 && answer.status == DONE {
-            let byte = byte_of(access.word, 0);
+        if let Some(byte) = palette_written(&asked, &answer) {
             let six = &mut stats.six;
-            six.count(byte, completed, machine.state(), earlier.state());
+            six.count(byte, completed_next(&old), machine.state(), earlier.state());
         }
-        let memory = access.target == APERTURE_ONE || access.target == APERTURE_TWO;
-        if memory && answer.status == DONE {
-            stats.lanes.count(&access, machine.state());
+        if at.is_memory() && answer.status == DONE {
+            stats.lanes.count(&asked, machine.state());
         }
         if answer.word != answer_earlier.word {
             stats.six.other_words += 1;
@@ -122,6 +155,18 @@ pub fn of(trace: &[u8], setup: Setup) -> Result<Stats, String> {
         }
     }
     Ok(stats)
+}
+
+/// The byte that a palette data write staged or stored.
+fn palette_written(asked: &Asked, answer: &Answer) -> Option<u8> {
+    match asked {
+        Asked::Write(at, word)
+            if at.is_register(PALETTE_DATA) && at.enables & 1 == 1 && answer.status == DONE =>
+        {
+            Some(byte_of(*word, 0))
+        }
+        _ => None,
+    }
 }
 
 /// The entry that a palette write would complete.
@@ -148,6 +193,65 @@ impl Six {
     }
 }
 
+impl Looks {
+    /// Counts a line, with the states before and after it.
+    fn count(&mut self, asked: &Asked, answer: &Answer, old: &State, state: &State) {
+        let before = self.before.take();
+        match *asked {
+            Asked::Look(at) => {
+                self.look(at, answer, old);
+                self.repeated += usize::from(before == Some(at));
+                self.before = Some(at);
+            }
+            Asked::Read(at) => self.followed += usize::from(before == Some(at)),
+            Asked::Write(..) => {}
+        }
+        // What ends a load or takes it a step further.
+        if state.stage != old.stage {
+            if old.stage != Stage::Empty && palette_written(asked, answer).is_some() {
+                self.between += self.waiting;
+            }
+            self.waiting = 0;
+        }
+    }
+
+    fn look(&mut self, at: At, answer: &Answer, state: &State) {
+        self.looks += 1;
+        self.by_status[answer.status as usize] += 1;
+        self.telling += usize::from(answer.known != 0);
+        if answer.status == DONE && at.is_register(PALETTE_DATA) && at.enables & 1 == 1 {
+            self.palette[usize::from(state.component)] += 1;
+        }
+        if state.stage != Stage::Empty {
+            self.waiting += 1;
+        }
+    }
+
+    /// The counts as lines of text.
+    fn report(&self) -> String {
+        let mut text = format!("looks: {}", self.looks);
+        for (status, count) in self.by_status.iter().enumerate() {
+            if *count > 0 {
+                text += &format!(", status {status}: {count}");
+            }
+        }
+        let [red, green, blue] = self.palette;
+        text += &format!("\nlooks with known bits: {}\n", self.telling);
+        text += &format!(
+            "looks at palette data: {}, at red {red}, green {green}, blue {blue}\n",
+            red + green + blue
+        );
+        text += &format!(
+            "looks with the same read next: {}, with the same look before: {}\n",
+            self.followed, self.repeated
+        );
+        text + &format!(
+            "looks between two writes of a palette load: {}\n",
+            self.between
+        )
+    }
+}
+
 impl Lanes {
     fn new(memory_bytes: u32) -> Lanes {
         Lanes {
@@ -159,48 +263,49 @@ impl Lanes {
     }
 
     /// Counts an access to an aperture that was done.
-    fn count(&mut self, access: &Access, state: &State) {
-        let order = self.model.order(state, access.target);
+    fn count(&mut self, asked: &Asked, state: &State) {
+        let at = asked.at();
+        let order = self.model.order(state, at.target);
         let places: Vec<usize> = (0..4)
-            .filter(|&number| access.enables >> self.model.lane_for(order, number) & 1 == 1)
-            .map(|number| (access.offset + number) as usize)
+            .filter(|&number| at.enables >> self.model.lane_for(order, number) & 1 == 1)
+            .map(|number| (at.offset + number) as usize)
             .collect();
         let partial = usize::from(!places.is_empty() && places.len() < 4);
         let code = order as usize;
         let counts = &mut self.codes[code];
-        if access.write {
+        if asked.act() == Act::Write {
             counts.writes += 1;
             counts.partial_writes += partial;
             for place in places {
                 self.last[place] = Some(self.writes.len());
             }
             self.writes.push(Written {
-                target: access.target,
+                target: at.target,
                 code,
-                enables: access.enables,
+                enables: at.enables,
             });
         } else {
             counts.reads += 1;
             counts.partial_reads += partial;
-            if places.iter().any(|&place| self.kept(place, access, code)) {
+            if places.iter().any(|&place| self.kept(place, &at, code)) {
                 self.codes[code].read_backs += 1;
             }
         }
     }
 
-    /// Whether the byte at a place is from a write by this access's aperture in
+    /// Whether the byte at a place is from a write by this read's aperture in
     /// this code of which every byte is still there.
-    fn kept(&self, place: usize, access: &Access, code: usize) -> bool {
+    fn kept(&self, place: usize, at: &At, code: usize) -> bool {
         let Some(number) = self.last[place] else {
             return false;
         };
         let write = &self.writes[number];
-        let first = access.offset as usize;
+        let first = at.offset as usize;
         let left = self.last[first..first + 4]
             .iter()
             .filter(|last| **last == Some(number))
             .count();
-        write.target == access.target
+        write.target == at.target
             && write.code == code
             && left == write.enables.count_ones() as usize
     }
@@ -250,6 +355,10 @@ impl Stats {
             six.other_words,
             six.other_counts
         );
-        text + &self.lanes.report()
+        text += &self.lanes.report();
+        match &self.looks {
+            Some(looks) => text + &looks.report(),
+            None => text,
+        }
     }
 }

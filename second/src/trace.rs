@@ -1,10 +1,11 @@
-//! The trace program: lines of accesses in, lines of answers out.
+//! The trace program: lines of reads and writes in, lines of answers out. What
+//! reads lines and carries them out serves explain as well.
 
 use std::io::{self, BufRead, Write};
 
 use crate::breaks::{Break, Rule};
 use crate::check;
-use crate::model::{Access, Answer, Model, DONE};
+use crate::model::{Act, Answer, Asked, At, Model, DONE};
 use crate::ppm;
 use crate::state::{side_fits, State, MEMORY_LIMIT};
 
@@ -25,13 +26,6 @@ pub const USUAL: Setup = Setup {
     height: 1,
     memory_bytes: 16,
 };
-
-/// What a line of a trace came to.
-#[derive(Clone, Copy, PartialEq, Eq, Debug)]
-pub enum Outcome {
-    Bad,
-    Answered(Answer),
-}
 
 /// A model with an opened panel.
 pub struct Machine {
@@ -68,28 +62,55 @@ impl Machine {
         })
     }
 
-    pub fn access(&mut self, access: &Access) -> Result<Answer, String> {
-        let Machine {
-            model,
-            state,
-            memory,
-            picture,
-            check,
-        } = self;
-        if *check {
-            let (answer, verdict) = check::access(model, state, memory, picture, access);
-            verdict.map(|()| answer)
-        } else {
-            Ok(model.access(state, memory, picture, access))
+    /// Carries out what a line asks for. A look has a changed count of 0 here,
+    /// so that all three answer alike.
+    pub fn carry_out(&mut self, asked: &Asked) -> Result<Answer, String> {
+        match *asked {
+            Asked::Read(at) => self.read(at),
+            Asked::Write(at, word) => self.write(at, word),
+            Asked::Look(at) => self.look(at),
         }
     }
 
-    /// Carries out a line if it has the form.
-    pub fn line(&mut self, line: &[u8]) -> Result<Outcome, String> {
-        match parse(line, &self.model.broken) {
-            Some(access) => Ok(Outcome::Answered(self.access(&access)?)),
-            None => Ok(Outcome::Bad),
+    fn read(&mut self, at: At) -> Result<Answer, String> {
+        let (state, memory, picture) = (&mut self.state, &self.memory, &self.picture);
+        if !self.check {
+            return Ok(self.model.read(state, memory, picture, at));
         }
+        let (answer, verdict) = check::read(&self.model, state, memory, picture, at);
+        verdict.map(|()| answer)
+    }
+
+    fn write(&mut self, at: At, word: u32) -> Result<Answer, String> {
+        let (state, memory, picture) = (&mut self.state, &mut self.memory, &mut self.picture);
+        if !self.check {
+            return Ok(self.model.write(state, memory, picture, at, word));
+        }
+        let (answer, verdict) = check::write(&self.model, state, memory, picture, at, word);
+        verdict.map(|()| answer)
+    }
+
+    fn look(&mut self, at: At) -> Result<Answer, String> {
+        let (state, memory, picture) = (&mut self.state, &self.memory, &mut self.picture);
+        let seen = if self.check {
+            let (seen, verdict) = check::look(&self.model, state, memory, picture, at);
+            verdict?;
+            seen
+        } else {
+            let seen = self.model.look(state, memory, picture, at);
+            self.model.spoil(state, memory, picture, at, seen);
+            seen
+        };
+        Ok(Answer {
+            status: seen.status,
+            word: seen.word,
+            known: seen.known,
+            changed: 0,
+        })
+    }
+
+    pub fn model(&self) -> &Model {
+        &self.model
     }
 
     pub fn state(&self) -> &State {
@@ -115,8 +136,14 @@ impl From<io::Error> for Failure {
     }
 }
 
-/// Runs a whole trace: the header line, then one line for every line read.
-/// Gives the machine as the last line left it.
+/// A program that reads lines: what runs it over an input.
+pub type Program =
+    fn(Break, Setup, bool, &mut dyn BufRead, &mut dyn Write) -> Result<Machine, Failure>;
+
+/// What a program writes for a line, its newline left out.
+pub type Answering = fn(&mut Machine, &[u8]) -> Result<String, String>;
+
+/// Runs a whole trace.
 pub fn run(
     broken: Break,
     setup: Setup,
@@ -124,7 +151,20 @@ pub fn run(
     input: &mut dyn BufRead,
     output: &mut dyn Write,
 ) -> Result<Machine, Failure> {
-    let mut machine = Machine::open(broken, setup, check).map_err(Failure::Wrong)?;
+    let machine = Machine::open(broken, setup, check).map_err(Failure::Wrong)?;
+    each_line(machine, setup, trace_line, input, output)
+}
+
+/// The header line, then one line for every line read. Gives the machine as the
+/// last line left it.
+pub fn each_line(
+    mut machine: Machine,
+    setup: Setup,
+    answering: Answering,
+    input: &mut dyn BufRead,
+    output: &mut dyn Write,
+) -> Result<Machine, Failure> {
+    let broken = machine.model.broken;
     writeln!(
         output,
         "PERMEDIA2 {}x{} {}",
@@ -141,26 +181,26 @@ pub fn run(
         if broken.is(Rule::LongLineDropped) && line.len() > LINE_LIMIT {
             continue;
         }
-        match machine.line(&line).map_err(Failure::Wrong)? {
-            Outcome::Bad => writeln!(output, "bad")?,
-            Outcome::Answered(a) if broken.is(Rule::UpperOutput) => writeln!(
-                output,
-                "{} {:08X} {:08X} {}",
-                a.status, a.word, a.known, a.changed
-            )?,
-            Outcome::Answered(a) if broken.is(Rule::ShortOutput) => writeln!(
-                output,
-                "{} {:x} {:x} {}",
-                a.status, a.word, a.known, a.changed
-            )?,
-            Outcome::Answered(a) => writeln!(
-                output,
-                "{} {:08x} {:08x} {}",
-                a.status, a.word, a.known, a.changed
-            )?,
-        }
+        let text = answering(&mut machine, &line).map_err(Failure::Wrong)?;
+        writeln!(output, "{text}")?;
     }
     Ok(machine)
+}
+
+/// The trace program's line; looks are bad there.
+fn trace_line(machine: &mut Machine, line: &[u8]) -> Result<String, String> {
+    let broken = machine.model.broken;
+    let Some(asked) = parse(line, broken.is(Rule::LookInTrace), &broken) else {
+        return Ok("bad".to_string());
+    };
+    let a = machine.carry_out(&asked)?;
+    Ok(if broken.is(Rule::UpperOutput) {
+        format!("{} {:08X} {:08X} {}", a.status, a.word, a.known, a.changed)
+    } else if broken.is(Rule::ShortOutput) {
+        format!("{} {:x} {:x} {}", a.status, a.word, a.known, a.changed)
+    } else {
+        format!("{} {:08x} {:08x} {}", a.status, a.word, a.known, a.changed)
+    })
 }
 
 /// Takes input apart into lines. Of a long line only the first bytes are kept,
@@ -225,46 +265,55 @@ fn next_byte(input: &mut dyn BufRead) -> io::Result<Option<u8>> {
     }
 }
 
-/// The access that a line describes, if it has the form.
-pub fn parse(line: &[u8], broken: &Break) -> Option<Access> {
+/// What a line asks for, if it has the form; looks only where they are taken.
+pub fn parse(line: &[u8], looks: bool, broken: &Break) -> Option<Asked> {
     if line.len() > LINE_LIMIT {
         return None;
     }
     let line = forgiven(line, broken);
     let fields: Vec<&[u8]> = line.split(|byte| *byte == b' ').collect();
-    let write = match fields[0] {
-        b"r" => false,
-        b"w" => true,
-        b"R" if broken.is(Rule::UpperLetters) => false,
-        b"W" if broken.is(Rule::UpperLetters) => true,
+    let act = match fields[0] {
+        b"r" => Act::Read,
+        b"w" => Act::Write,
+        b"l" if looks && !broken.is(Rule::LookBad) => Act::Look,
+        b"R" if broken.is(Rule::UpperLetters) => Act::Read,
+        b"W" if broken.is(Rule::UpperLetters) => Act::Write,
+        b"L" if looks && broken.is(Rule::LookUpper) => Act::Look,
         _ => return None,
     };
-    let wanted = if write { 5 } else { 4 };
-    let fits = fields.len() == wanted
-        || broken.is(Rule::ReadWithWord) && !write && fields.len() == 5
-        || broken.is(Rule::WriteWithoutWord) && write && fields.len() == 4
-        || broken.is(Rule::FifthField) && write && fields.len() == 6;
-    if !fits {
+    if !fits(act, fields.len(), broken) {
         return None;
     }
-    let access = Access {
-        write,
+    let at = At {
         target: target(fields[1], broken)?,
         offset: hex(fields[2], broken)?,
         enables: hex(fields[3], broken)?,
-        word: if write && fields.len() > 4 {
-            hex(fields[4], broken)?
-        } else {
-            0
-        },
     };
-    if broken.is(Rule::BadPrintsThree) && access.target > 3 {
+    let asked = match act {
+        Act::Read => Asked::Read(at),
+        Act::Look => Asked::Look(at),
+        Act::Write if fields.len() == 4 => Asked::Write(at, 0),
+        Act::Write => Asked::Write(at, hex(fields[4], broken)?),
+    };
+    if broken.is(Rule::BadPrintsThree) && at.target > 3 {
         return None;
     }
-    if broken.is(Rule::HighEnablesBad) && access.enables > 15 {
+    if broken.is(Rule::HighEnablesBad) && at.enables > 15 {
         return None;
     }
-    Some(access)
+    Some(asked)
+}
+
+/// Whether a line of one act may have so many fields.
+fn fits(act: Act, fields: usize, broken: &Break) -> bool {
+    match (act, fields) {
+        (Act::Read | Act::Look, 4) | (Act::Write, 5) => true,
+        (Act::Read, 5) => broken.is(Rule::ReadWithWord),
+        (Act::Look, 5) => broken.is(Rule::LookWithWord),
+        (Act::Write, 4) => broken.is(Rule::WriteWithoutWord),
+        (Act::Write, 6) => broken.is(Rule::FifthField),
+        _ => false,
+    }
 }
 
 /// The line as a break would have it.

@@ -8,13 +8,13 @@
 #include <string.h>
 
 /* crates/layout, which is proved to make and to take apart each struct by its fields' names */
-struct pm_access made_access(uint32_t target, uint32_t offset, uint32_t write, uint32_t enables, uint32_t word);
+struct pm_looked made_looked(uint32_t status, uint32_t word, uint32_t known, uint32_t changed);
 struct pm_state made_state(uint32_t width, uint32_t height, uint32_t fitted, uint32_t once, const uint32_t *values, const uint32_t *knowns,
     uint8_t address, uint8_t known, uint8_t component, uint8_t staged, uint8_t staged_red,
     uint8_t staged_green, const uint8_t *red, const uint8_t *green, const uint8_t *blue, const uint8_t *stored);
 struct pm_answer made_answer(uint32_t status, uint32_t word, uint32_t known, uint32_t changed, struct pm_state s);
 struct pm_opened made_opened(uint32_t status, struct pm_state s);
-void parts_of_access(struct pm_access a, uint32_t *out);
+void parts_of_looked(struct pm_looked l, uint32_t *out);
 void sizes_of_state(struct pm_state s, uint32_t *out);
 void values_of_state(struct pm_state s, uint32_t *out);
 void knowns_of_state(struct pm_state s, uint32_t *out);
@@ -149,28 +149,26 @@ static void library_reads_state(struct pm_state s, unsigned from) {
 
 /* ---- the small structs: their words first, then the state ---- */
 
-static void test_access(void) {
-    uint32_t w[5];
+static void test_looked(void) {
+    uint32_t w[4];
     place = 1;
-    struct pm_access c;
-    c.target = next_word();
-    c.offset = next_word();
-    c.write = next_word();
-    c.enables = next_word();
+    struct pm_looked c;
+    c.status = next_word();
     c.word = next_word();
-    parts_of_access(c, w);
+    c.known = next_word();
+    c.changed = next_word();
+    parts_of_looked(c, w);
     place = 1;
-    same_words("library: access", w, 5);
+    same_words("library: looked", w, 4);
 
     place = 1;
-    fill_words(w, 5);
-    struct pm_access r = made_access(w[0], w[1], w[2], w[3], w[4]);
+    fill_words(w, 4);
+    struct pm_looked r = made_looked(w[0], w[1], w[2], w[3]);
     place = 1;
-    same("access.target", 0, r.target, next_word());
-    same("access.offset", 0, r.offset, next_word());
-    same("access.write", 0, r.write, next_word());
-    same("access.enables", 0, r.enables, next_word());
-    same("access.word", 0, r.word, next_word());
+    same("looked.status", 0, r.status, next_word());
+    same("looked.word", 0, r.word, next_word());
+    same("looked.known", 0, r.known, next_word());
+    same("looked.changed", 0, r.changed, next_word());
 }
 
 static void test_answer(void) {
@@ -222,7 +220,7 @@ int main(void) {
         library_reads_state(written_state(1), 1);
         struct pm_state s = library_state(1);
         read_state(&s, 1);
-        test_access();
+        test_looked();
         test_answer();
         test_opened();
     }

@@ -1,5 +1,5 @@
--- The three demands on the code: what follows from the contracts of `open` and `access` alone, for any call and for any sequence of calls in which
--- nobody else alters state, memory or picture. A run of calls is a run of the definitions (Calls), of which the other promises speak. Assumes nothing.
+-- The three demands on the code: what follows from the contracts of `open`, `read`, `write` and `look`, and from what is lent to be read only staying as it is (Calls), for any call and
+-- for any sequence of calls in which nobody else alters state, memory or picture. A run of calls is a run of the definitions (Calls), of which the other promises speak. Assumes nothing.
 use Prim.Native.Nat.{ℕ, _*_, _%_, _≤_, _<_}
 use mathlib.Core.Bool.{Bool, true, false}
 use mathlib.Core.List.{List}
@@ -13,6 +13,7 @@ use Rattle.chip.specs.declared.Access.{Access}
 use Rattle.chip.specs.declared.Answer.{Answer}
 use Rattle.chip.specs.declared.Opened.{Opened}
 use Rattle.chip.specs.declared.Colour.{Colour}
+use Rattle.chip.specs.declared.Kind.the-variants.{Look}
 use Rattle.chip.specs.declared.Place.the-variants.{Register, Window}
 use Rattle.chip.specs.Palette.{entryCount, entryOf}
 use Rattle.chip.specs.State.{resetState}
@@ -43,7 +44,9 @@ use Rattle.promises.proofs.Promise4Lanes.{written-back}
 use Rattle.promises.proofs.Promise5Picture.{picture-right, count-right, lengths-stay, dot-ruled}
 use Rattle.promises.proofs.Promise6Altered.{other-dots-stay, differing-dots-change}
 use Rattle.promises.proofs.Promise7Depends.{aperture-depends, command-gates-nothing, command-alters-nothing}
-use Rattle.calls.specs.Calls.{Called, OpenCalled, Calls, answers}
+use Rattle.promises.specs.Looks.{SameAsked, unlooked, answersOf, othersIn}
+use Rattle.promises.proofs.Promise9Looks.{look-alters-nothing, read-after-look, looks-change-nothing}
+use Rattle.calls.specs.Calls.{Called, OpenCalled, Calls}
 use Rattle.calls.proofs.Calls.{call-answers, call-leaves, open-answers, open-leaves, calls-leave, calls-answer}
 
 -- ---- any call at all, on any world
@@ -144,6 +147,26 @@ call-written-back x a b r s y z c d i g w f e =
     (step v b .answer .status ≡ 0) × (step v b .answer .word ≡ inside (a .word) (lanesOf (a .enables))) × (step v b .answer .known ≡ lanesOf (a .enables)))
     (written-back x a b i g w f e))
 
+-- 02, C-12: a look leaves the world as it was; a read after it, with the same target, offset and enables, answers what it showed ..
+pub call-look : (x : World) (a : Access) (r : Answer) (y : World) → Called x a r y → a .kind ≡ Look → (y ≡ x) × (r .changed ≡ 0)
+call-look x a r y c k = of-call x a r y c (λ (q : Answer) (z : World). (z ≡ x) × (q .changed ≡ 0)) (look-alters-nothing x a k)
+
+pub call-read-after-look : (x : World) (a b : Access) (r s : Answer) (y z : World) → Called x a r y → Called y b s z → SameAsked a b
+    → (s .status ≡ r .status) × (s .word ≡ r .word) × (s .known ≡ r .known)
+call-read-after-look x a b r s y z c d f =
+    of-call y b s z d (λ (q : Answer) (v : World). (q .status ≡ r .status) × (q .word ≡ r .word) × (q .known ≡ r .known))
+    (of-call x a r y c
+    (λ (q : Answer) (v : World). (step v b .answer .status ≡ q .status) × (step v b .answer .word ≡ q .word) × (step v b .answer .known ≡ q .known))
+    (let e = read-after-look x a b f in (sym (e .status), sym (e .word), sym (e .known))))
+
+-- .. and calls with looks among them leave what the calls without them leave, and answer reads and writes as these do
+pub calls-without-looks : (x : World) (l : List Access) (rs qs : List Answer) (z v : World) → Calls x l rs z → Calls x (unlooked l) qs v
+    → (z ≡ v) × (othersIn l rs ≡ qs)
+calls-without-looks x l rs qs z v c d = (
+  calls-leave x l rs z c ∙ looks-change-nothing x l .0 ∙ sym (calls-leave x (unlooked l) qs v d),
+  ap (othersIn l) (calls-answer x l rs z c) ∙ looks-change-nothing x l .1 ∙ sym (calls-answer x (unlooked l) qs v d),
+)
+
 -- the command register gates no call, and one that does not lead to it answers alike and leaves the same memory
 pub call-command : (x x′ : World) (a : Access) (r r′ : Answer) (y y′ : World) → Called x a r y → Called x′ a r′ y′ → Good x → Good x′ → ButRow x x′ command
     → (r′ .status ≡ r .status) × ((Leads (x .state) a (Register command) → ⊥) → (r′ .word ≡ r .word) × (r′ .known ≡ r .known) × (y′ .memory ≡ y .memory))
@@ -186,11 +209,11 @@ module _ (w h : ℕ) (m p : List ℕ) (r : Opened) (x : World) (c : OpenCalled w
 
 module _ (w h : ℕ) (m p : List ℕ) (r : Opened) (x : World) (c : OpenCalled w h m p r x) (l : List Access) (rs : List Answer) (z : World) (d : Calls x l rs z) where
   -- what the calls leave, and what each answers, is what the definitions give for the same list
-  pub calls-agree : (z ≡ run (opened w h m p) l) × (rs ≡ answers (opened w h m p) l)
+  pub calls-agree : (z ≡ run (opened w h m p) l) × (rs ≡ answersOf (opened w h m p) l)
   calls-agree =
       let e = open-leaves w h m p r x c in (
         calls-leave x l rs z d ∙ ap (λ (u : World). run u l) e,
-        calls-answer x l rs z d ∙ ap (λ (u : World). answers u l) e,
+        calls-answer x l rs z d ∙ ap (λ (u : World). answersOf u l) e,
       )
 
   -- so every promise of the definitions holds of the code

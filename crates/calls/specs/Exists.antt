@@ -7,7 +7,7 @@ use Rattle.chip.specs.declared.Opened.{Opened}
 use Rattle.chip.specs.Trace.{World}
 use Rattle.calls.specs.Calls.{Called, OpenCalled, Calls}
 
--- some call of `access` at world x with access a
+-- some call of `read`, `write` or `look` at world x, as access a asks
 pub record SomeCall (x : World) (a : Access) : Type 1 where
   pub answer : Answer
   pub left : World
@@ -19,13 +19,13 @@ pub record SomeOpening (w h : ℕ) (m p : List ℕ) : Type 1 where
   pub left : World
   pub call : OpenCalled w h m p answer left
 
--- some calls of `access`, one after the other, with the accesses of l from world x
+-- some calls, one after the other, with the accesses of l from world x
 pub record SomeCalls (x : World) (l : List Access) : Type 1 where
   pub answers : List Answer
   pub left : World
   pub calls : Calls x l answers left
 
--- some call of `open`, and then calls of `access` with the accesses of l from what it left
+-- some call of `open`, and then calls with the accesses of l from what it left
 pub record SomeUse (w h : ℕ) (m p : List ℕ) (l : List Access) : Type 1 where
   pub opening : SomeOpening w h m p
   pub calls : SomeCalls (opening .left) l

@@ -1,34 +1,18 @@
--- What a direction is; what holds of an access and of an opening that is not refused: each line of 01's table under its name.
+-- What holds of an access and of an opening that is not refused: each line of 01's table under its name.
 -- From Lines.none-holds; no other file of this crate counts the lines. Assumes nothing.
 use Prim.Native.Nat.{ℕ, _*_, _%_, _≤_}
-use mathlib.Core.Bool.{true, false, not, _&&_}
-use mathlib.Core.Path.{_≡_, refl, ap}
-use borrow.Author.Tests.{eqb-true, eq-eqb, ne-eqb, leb-true, not-false}
+use mathlib.Core.Bool.{true, _&&_}
+use mathlib.Core.Path.{_≡_, refl}
+use borrow.Author.Tests.{eqb-true, leb-true, not-false}
 use lib.Dec.{eqb, leb}
 use Rattle.bits.specs.Choose.{pick}
-use Rattle.bits.proofs.Bools.{and-first, and-second, clash}
+use Rattle.bits.proofs.Bools.{and-first, and-second}
 use Rattle.chip.specs.declared.State.{State}
 use Rattle.chip.specs.declared.Access.{Access}
+use Rattle.chip.specs.Access.{isWrite}
 use Rattle.chip.specs.Sound.{panelOk, memoryOk, isState}
-use Rattle.chip.specs.Refusal.{isWrite, portOf, laterLines, accessLines, statusOf, openingLines, openingStatus}
+use Rattle.chip.specs.Refusal.{portOf, laterLines, accessLines, statusOf, openingLines, openingStatus}
 use Rattle.chip.proofs.Lines.{none-holds}
-
--- 0 is a read, anything else a write
-pub is-read : (a : Access) → isWrite a ≡ false → a .write ≡ 0
-unfolding isWrite
-is-read a e = eqb-true _ 0 (not-false (eqb (a .write) 0) e)
-
-pub is-write : (a : Access) → isWrite a ≡ true → a .write ≡ 0 → ⊥
-unfolding isWrite
-is-write a e z = clash _ e (ap not (eq-eqb (a .write) 0 z))
-
-pub read-is : (a : Access) → a .write ≡ 0 → isWrite a ≡ false
-unfolding isWrite
-read-is a e = ap not (eq-eqb (a .write) 0 e)
-
-pub write-is : (a : Access) → (a .write ≡ 0 → ⊥) → isWrite a ≡ true
-unfolding isWrite
-write-is a e = ap not (ne-eqb (a .write) 0 e)
 
 pub record Unrefused (s : State) (ml pl : ℕ) (a : Access) : Type 0 where
   -- 1 and 2

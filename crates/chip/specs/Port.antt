@@ -1,4 +1,4 @@
--- What a place is to an access: whether it is there, has the direction and is served, what a read sees, and what a read and a write store (01, Region 0,
+-- What a place is to an access: whether it is there, has the direction and is served, what a read or a look sees, and what a read and a write store (01, Region 0,
 -- RAMDAC, Configuration header, Apertures).
 use Prim.Native.Nat.{ℕ}
 use mathlib.Core.Bool.{Bool, true, false}
@@ -19,11 +19,11 @@ use Rattle.chip.specs.Bank.{bankRow, miscControl}
 use Rattle.chip.specs.Register.{broughtWord}
 use Rattle.chip.specs.Subsystem.{storedBits, fixedBy}
 use Rattle.chip.specs.Palette.{entryOf, keptAs, shownAs, partOf}
-use Rattle.chip.specs.Dac.{aimedAt, afterPeek, afterPaint, completedBy}
+use Rattle.chip.specs.Dac.{aimedAt, afterFetch, afterPaint, completedBy}
 use Rattle.chip.specs.Aperture.{served, span, reachesMemory, wordFrom, putsOf}
 use Rattle.chip.specs.Patch.{Patch, nothingStored}
 
--- ---- what a read sees, before its lanes are picked
+-- ---- what a read or a look sees, before its lanes are picked
 
 abbrev pub seen : ℕ → ℕ → Seen
 seen v k = record { value = v; known = k }
@@ -57,15 +57,15 @@ rowPatch s i a =
       puts = [];
     }
 
--- a write of the address, and an access to palette data: nothing without lane 0. A read moves on, and so does a write, which may complete an entry
+-- a write of the address, and a read or a write of palette data: nothing without lane 0. A read moves on, and so does a write, which may complete an entry; a look does not
 unfoldable pub aimPatch : Access → Patch
 aimPatch a =
     record
     { store = none; once = none; dac = pick (bit 0 (a .enables)) (some (aimedAt (laneByte 0 (a .word)))) none; paint = none; puts = [] }
 
-unfoldable pub peekPatch : State → Access → Patch
-peekPatch s a =
-    record { store = none; once = none; dac = pick (bit 0 (a .enables)) (some (afterPeek (s .dac))) none; paint = none; puts = [] }
+unfoldable pub fetchPatch : State → Access → Patch
+fetchPatch s a =
+    record { store = none; once = none; dac = pick (bit 0 (a .enables)) (some (afterFetch (s .dac))) none; paint = none; puts = [] }
 
 -- the byte of a palette data write, as the width has it stored
 unfoldable pub keptFrom : State → Access → ℕ
@@ -93,15 +93,15 @@ pub record Port : Type 0 where
   pub reads : Bool
   pub writes : Bool
   pub served : Bool
-  -- what a read sees, from memory
+  -- what a read or a look sees, from memory
   pub seen : List ℕ → Seen
   -- what a read stores, and what a write does
-  pub peeked : Patch
+  pub fetched : Patch
   pub stored : Patch
 
 -- with no direction refused, and every mode served
 abbrev pub plainPort : Bool → (List ℕ → Seen) → Patch → Patch → Port
-plainPort here f r w = record { present = here; reads = true; writes = true; served = true; seen = f; peeked = r; stored = w }
+plainPort here f r w = record { present = here; reads = true; writes = true; served = true; seen = f; fetched = r; stored = w }
 
 unfoldable pub portAt : State → Access → Place → Port
 portAt s a (Register i) =
@@ -111,12 +111,12 @@ portAt s a (Register i) =
       writes = bankRow i .writes;
       served = true;
       seen = λ m. seen (getD (s .values) i 0) (getD (s .knowns) i 0);
-      peeked = nothingStored;
+      fetched = nothingStored;
       stored = rowPatch s i a;
     }
 portAt s a Address = plainPort true (λ m. seen (s .dac .address) (s .dac .known)) nothingStored (aimPatch a)
 portAt s a PaletteData =
-    plainPort true (λ m. seenPart (wide s) (s .dac .component) (entryOf (s .palette) (s .dac .address))) (peekPatch s a) (paintPatch s a)
+    plainPort true (λ m. seenPart (wide s) (s .dac .component) (entryOf (s .palette) (s .dac .address))) (fetchPatch s a) (paintPatch s a)
 portAt s a (Window i) =
     record {
       present = reachesMemory (s .fitted) (span (getD (s .values) i 0) (atByte (a .offset)));
@@ -124,7 +124,7 @@ portAt s a (Window i) =
       writes = true;
       served = served (getD (s .values) i 0);
       seen = λ m. seen (wordFrom (getD (s .values) i 0) m (atByte (a .offset))) full;
-      peeked = nothingStored;
+      fetched = nothingStored;
       stored = pokePatch (getD (s .values) i 0) a;
     }
 portAt s a Blank = plainPort true (λ m. seen 0 full) nothingStored nothingStored

@@ -8,6 +8,7 @@ use chip::APERTURE_ONE;
 use chip::Access;
 use chip::Dac;
 use chip::INDIRECT_FIRST;
+use chip::Kind;
 use chip::Place;
 use registers::place::place_of;
 use text::shown::word;
@@ -135,7 +136,7 @@ fn say_changed(changed: u32) {
     }
 }
 
-// A read's word with ? for each digit that has an unknown bit.
+// A read's or a look's word with ? for each digit that has an unknown bit.
 fn say_read(shown: u32, known: u32) {
     say(b" = ");
     let digits = word(shown, known);
@@ -145,23 +146,33 @@ fn say_read(shown: u32, known: u32) {
     }
 }
 
-pub(crate) fn say_access(dac: Dac, a: Access, status: u32, shown: u32, known: u32, changed: u32) {
-    if a.write == 0 {
-        say(b"read  ");
-    } else {
-        say(b"write ");
+fn say_kind(k: Kind) {
+    match k {
+        Kind::Read => say(b"read  "),
+        Kind::Write => say(b"write "),
+        Kind::Look => say(b"look  "),
     }
+}
+
+// What is asked for.
+fn say_asked(dac: Dac, a: Access, k: Kind) {
+    say_kind(k);
     say_place(dac, a);
-    if a.write != 0 {
+    if k.is_write() {
         say(b" ");
         say_word(a.word);
     }
     say_lanes(a.enables);
+}
+
+pub(crate) fn say_access(dac: Dac, a: Access, status: u32, shown: u32, known: u32, changed: u32) {
+    let k = a.kind;
+    say_asked(dac, a, k);
     if status != 0 {
         say_refusal(status);
         return;
     }
-    if a.write == 0 {
+    if !k.is_write() {
         say_read(shown, known);
     }
     say_changed(changed);

@@ -2,13 +2,12 @@
 use crate::complain::complain_why;
 use crate::explain::say_access;
 use crate::say::say;
+use chip::Access;
+use chip::Kind;
 use chip::State;
-use model::access::access;
 use text::Asked;
 use text::Taken;
-use text::answer::write;
 use text::gather::gather;
-use text::line::read;
 ghost use Prim.Native.Nat.{_≤_};
 ghost use lib.ListN.{length};
 
@@ -27,19 +26,59 @@ struct Round {
 // The trace's line for an answer.
 fn say_answer(status: u32, shown: u32, known: u32, changed: u32) {
     let mut out = [0u8; 40];
-    let n = write(status, shown, known, changed, &mut out);
+    let n = text::answer::write(status, shown, known, changed, &mut out);
     say(&out[..n]);
 }
 
 fn say_bad(words: bool) {
     if words {
-        say(b"bad line: expected is r TARGET OFFSET ENABLES, or w TARGET OFFSET ENABLES WORD\n");
+        say(
+            b"bad line: expected is r TARGET OFFSET ENABLES, w TARGET OFFSET ENABLES WORD, or l TARGET OFFSET ENABLES\n",
+        );
     } else {
         say(b"bad\n");
     }
 }
 
-// A line's answer, in the trace's form or in words; a line of another form alters nothing.
+// An access's answer, in the trace's form or in words; s is the state before it.
+fn answer(s: State, words: bool, a: Access, status: u32, shown: u32, known: u32, changed: u32) {
+    if words {
+        say_access(s.dac, a, status, shown, known, changed);
+    } else {
+        say_answer(status, shown, known, changed);
+    }
+}
+
+fn do_read(s: State, words: bool, a: Access, memory: &[u8], picture: &[u32]) -> State {
+    let r = model::read::read(s, a.target, a.offset, a.enables, memory, picture);
+    answer(s, words, a, r.status, r.word, r.known, r.changed);
+    r.state
+}
+
+fn do_write(s: State, words: bool, a: Access, memory: &mut [u8], picture: &mut [u32]) -> State {
+    let r = model::write::write(s, a.target, a.offset, a.enables, a.word, memory, picture);
+    answer(s, words, a, r.status, r.word, r.known, r.changed);
+    r.state
+}
+
+fn do_look(s: State, words: bool, a: Access, memory: &[u8], picture: &[u32]) {
+    let r = model::look::look(s, a.target, a.offset, a.enables, memory, picture);
+    answer(s, words, a, r.status, r.word, r.known, r.changed);
+}
+
+fn do_access(s: State, words: bool, a: Access, memory: &mut [u8], picture: &mut [u32]) -> State {
+    let k = a.kind;
+    match k {
+        Kind::Read => do_read(s, words, a, memory, picture),
+        Kind::Write => do_write(s, words, a, memory, picture),
+        Kind::Look => {
+            do_look(s, words, a, memory, picture);
+            s
+        }
+    }
+}
+
+// A line's answer; a line of another form alters nothing. In words a line may ask for a look, in the trace's form not.
 fn answer_line(
     s: State,
     words: bool,
@@ -47,21 +86,13 @@ fn answer_line(
     memory: &mut [u8],
     picture: &mut [u32],
 ) -> State {
-    let asked = read(line);
+    let asked = text::line::read(line, words);
     match asked {
         Asked::Bad => {
             say_bad(words);
             s
         }
-        Asked::For(a) => {
-            let r = access(s, a, memory, picture);
-            if words {
-                say_access(s.dac, a, r.status, r.word, r.known, r.changed);
-            } else {
-                say_answer(r.status, r.word, r.known, r.changed);
-            }
-            r.state
-        }
+        Asked::For(a) => do_access(s, words, a, memory, picture),
     }
 }
 

@@ -3,14 +3,14 @@
 use denote.Ref.{now}
 use Rattle.bits.proofs.Cases.{same-value}
 use Rattle.bits.proofs.Fixes.{Fixes, FixesLent}
-use Rattle.layout.proofs.made_access.Reads as made-access
+use Rattle.layout.proofs.made_looked.Reads as made-looked
 use Rattle.layout.proofs.made_state.Reads as made-state
 use Rattle.layout.proofs.made_answer.Reads as made-answer
 use Rattle.layout.proofs.made_opened.Reads as made-opened
 use Rattle.layout.proofs.state_of_answer.Reads as state-of-answer
 use Rattle.layout.proofs.status_of_opened.Reads as status-of-opened
 use Rattle.layout.proofs.state_of_opened.Reads as state-of-opened
-use Rattle.layout.proofs.parts_of_access.Reads as parts-of-access
+use Rattle.layout.proofs.parts_of_looked.Reads as parts-of-looked
 use Rattle.layout.proofs.sizes_of_state.Reads as sizes-of-state
 use Rattle.layout.proofs.values_of_state.Reads as values-of-state
 use Rattle.layout.proofs.knowns_of_state.Reads as knowns-of-state
@@ -23,8 +23,8 @@ use Rattle.layout.proofs.parts_of_answer.Reads as parts-of-answer
 
 -- ---- made
 
-pub made-access-one : Fixes made-access.Post
-made-access-one κs a r r′ x x′ p q = same-value p q
+pub made-looked-one : Fixes made-looked.Post
+made-looked-one κs a r r′ x x′ p q = same-value p q
 
 pub made-state-one : Fixes made-state.Post
 made-state-one κs a r r′ x x′ p q = same-value p q
@@ -46,8 +46,8 @@ state-of-opened-one κs a r r′ x x′ p q = same-value p q
 
 -- ---- taken apart: what is lent at exit
 
-pub parts-of-access-one : FixesLent parts-of-access.Post (λ κs x. now (x .1 .0))
-parts-of-access-one κs a r r′ x x′ p q = same-value p q
+pub parts-of-looked-one : FixesLent parts-of-looked.Post (λ κs x. now (x .1 .0))
+parts-of-looked-one κs a r r′ x x′ p q = same-value p q
 
 pub sizes-of-state-one : FixesLent sizes-of-state.Post (λ κs x. now (x .1 .0))
 sizes-of-state-one κs a r r′ x x′ p q = same-value p q

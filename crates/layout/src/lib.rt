@@ -2,9 +2,9 @@
 // names, and taken apart here into its parts, after C wrote it by its names.
 ghost use mathlib.Core.List.{[], _∷_};
 ghost use mathlib.Core.Path.{_≡_};
-use chip::Access;
 use chip::Answer;
 use chip::Dac;
+use chip::Looked;
 use chip::Opened;
 use chip::Palette;
 use chip::ROWS;
@@ -13,21 +13,14 @@ use chip::State;
 // ---- made here, read by C
 
 #[no_mangle]
-pub extern "C" fn made_access(
-    target: u32,
-    offset: u32,
-    write: u32,
-    enables: u32,
-    word: u32,
-) -> Access
-    ensures { λ r. ⌜ r ≡ record { target = target; offset = offset; write = write; enables = enables; word = word } ⌝ }
+pub extern "C" fn made_looked(status: u32, word: u32, known: u32, changed: u32) -> Looked
+    ensures { λ r. ⌜ r ≡ record { status = status; word = word; known = known; changed = changed } ⌝ }
 {
-    Access {
-        target,
-        offset,
-        write,
-        enables,
+    Looked {
+        status,
         word,
+        known,
+        changed,
     }
 }
 
@@ -108,10 +101,10 @@ pub extern "C" fn made_opened(status: u32, s: State) -> Opened
 // ---- written by C, taken apart here
 
 #[no_mangle]
-pub extern "C" fn parts_of_access(a: Access, out: &mut [u32; 5])
-    ensures { λ r. ⌜ now (out .exit) ≡ a .target ∷ a .offset ∷ a .write ∷ a .enables ∷ a .word ∷ [] ⌝ }
+pub extern "C" fn parts_of_looked(l: Looked, out: &mut [u32; 4])
+    ensures { λ r. ⌜ now (out .exit) ≡ l .status ∷ l .word ∷ l .known ∷ l .changed ∷ [] ⌝ }
 {
-    *out = [a.target, a.offset, a.write, a.enables, a.word];
+    *out = [l.status, l.word, l.known, l.changed];
 }
 
 #[no_mangle]

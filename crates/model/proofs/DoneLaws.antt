@@ -18,6 +18,7 @@ use Rattle.chip.specs.declared.Access.{Access}
 use Rattle.chip.specs.declared.Dac.{Dac}
 use Rattle.chip.specs.declared.Answer.{Answer}
 use Rattle.chip.specs.declared.Seen.{Seen}
+use Rattle.chip.specs.declared.Kind.the-variants.{Read, Write, Look}
 use Rattle.chip.specs.declared.Place.{Place}
 use Rattle.chip.specs.declared.Place.the-variants.{Register, Address, PaletteData, Window, Blank, Nowhere}
 use Rattle.chip.specs.Aperture.{putsOf, putAll}
@@ -28,10 +29,11 @@ use Rattle.chip.specs.Sound.{panelOk}
 use Rattle.chip.specs.Patch.{Patch, applied, memoryWith}
 use Rattle.chip.specs.Place.{dataPlace, indexedPlace, regionPlace, headerPlace, placeAt, placeOf}
 use Rattle.chip.specs.Port.{seen, knownIn, wordIn, rowPatch, aimPatch, paintPatch, pokePatch, portAt}
-use Rattle.chip.specs.Refusal.{isWrite, portOf, statusOf}
+use Rattle.chip.specs.Refusal.{portOf, statusOf}
 use Rattle.chip.specs.Picture.{wordOf}
 use Rattle.chip.specs.Step.{Outcome, Gives, answered, refused, settled, seenBy, patchOf, stateAfter, memoryAfter, doneBy, givenBy, stepOf}
-use Rattle.chip.proofs.Refusals.{unrefused, read-is, write-is}
+use Rattle.chip.proofs.Refusals.{unrefused}
+use Rattle.chip.proofs.Operations.{write-is, look-is, read-writes-not, read-looks-not, look-writes-not}
 use Rattle.chip.proofs.Ports.{read-steps}
 use Rattle.picture.specs.Draw.{fits, Redraws}
 use Rattle.picture.proofs.Parts.{still-redraws}
@@ -46,9 +48,9 @@ pub redraws-by : (t u : Bool) (f g : ℕ → ℕ) (l : List ℕ) (r : ℕ) (k : 
 redraws-by t u f g l r k e d = subst (λ (b : Bool). Redraws b f g l r k) e d
 
 -- a redraw that was left out where no word changes
-shown : (t : Bool) (f g : ℕ → ℕ) (l : List ℕ) (r : ℕ) (k : List ℕ) → (t ≡ false → (j : ℕ) → f j ≡ g j) → Redraws t f g l r k → Redraws true f g l r k
-shown true f g l r k h d = d
-shown false f g l r k h d =
+left-out : (t : Bool) (f g : ℕ → ℕ) (l : List ℕ) (r : ℕ) (k : List ℕ) → (t ≡ false → (j : ℕ) → f j ≡ g j) → Redraws t f g l r k → Redraws true f g l r k
+left-out true f g l r k h d = d
+left-out false f g l r k h d =
     let z = still-redraws true f g l (h refl) in
     record { picture = d .picture ∙ z .picture; count = d .count ∙ z .count }
 
@@ -72,19 +74,19 @@ wrote s a p n t r m l c k en q d e =
     subst (λ (x : Answer). Gives (settled s m l (applied (portAt s a p .stored) s) m 0 0) x m k) (sym e)
     (subst (λ (x : State). Gives (settled s m l x m 0 0) (answered 0 0 0 c n) m k) en
     (settles s m l n m 0 0 c k
-    (shown t (wordOf s m) (wordOf n m) l c k (λ h j. q h s a refl m j ∙ ap (λ (x : State). wordOf x m j) (sym en)) d)))
+    (left-out t (wordOf s m) (wordOf n m) l c k (λ h j. q h s a refl m j ∙ ap (λ (x : State). wordOf x m j) (sym en)) d)))
 
 -- a read
 read : (s : State) (a : Access) (p : Place) (m l : List ℕ) (r : Answer) (w k : ℕ)
-    → r ≡ answered 0 w k 0 (applied (portAt s a p .peeked) s) → Gives (settled s m l (applied (portAt s a p .peeked) s) m w k) r m l
+    → r ≡ answered 0 w k 0 (applied (portAt s a p .fetched) s) → Gives (settled s m l (applied (portAt s a p .fetched) s) m w k) r m l
 read s a p m l r w k e =
-    subst (λ (x : Answer). Gives (settled s m l (applied (portAt s a p .peeked) s) m w k) x m l) (sym e)
-    (settles s m l (applied (portAt s a p .peeked) s) m w k 0 l (still-redraws true _ _ l (quiet-read s a p m)))
+    subst (λ (x : Answer). Gives (settled s m l (applied (portAt s a p .fetched) s) m w k) x m l) (sym e)
+    (settles s m l (applied (portAt s a p .fetched) s) m w k 0 l (still-redraws true _ _ l (quiet-read s a p m)))
 
 -- the state that a read leaves: with the palette's pointer as the read has it
-pub read-state : (s : State) (a : Access) (p : Place) (d : Dac) → ((n : State) → n .dac ≡ s .dac → d ≡ Option·getD (portAt n a p .peeked .dac) (n .dac))
+pub read-state : (s : State) (a : Access) (p : Place) (d : Dac) → ((n : State) → n .dac ≡ s .dac → d ≡ Option·getD (portAt n a p .fetched .dac) (n .dac))
     → (let n : State = record { width = s .width; height = s .height; fitted = s .fitted; once = s .once; values = s .values; knowns = s .knowns; dac = d; palette = s .palette } in n)
-    ≡ applied (portAt s a p .peeked) s
+    ≡ applied (portAt s a p .fetched) s
 unfolding applied
 read-state s a p d f =
     ap (λ (x : Dac). (let n : State = record { width = s .width; height = s .height; fitted = s .fitted; once = s .once; values = s .values; knowns = s .knowns; dac = x; palette = s .palette } in n)) (f s refl)
@@ -92,9 +94,9 @@ read-state s a p d f =
 
 -- what a read answers
 pub read-answer : (s : State) (a : Access) (p : Place) (m : List ℕ) (x : Seen) (n : State) (w k : ℕ)
-    → x ≡ portAt s a p .seen m → w ≡ wordIn x (a .enables) → k ≡ knownIn x (a .enables) → n ≡ applied (portAt s a p .peeked) s
+    → x ≡ portAt s a p .seen m → w ≡ wordIn x (a .enables) → k ≡ knownIn x (a .enables) → n ≡ applied (portAt s a p .fetched) s
     → answered 0 w k 0 n
-    ≡ answered 0 (wordIn (portAt s a p .seen m) (a .enables)) (knownIn (portAt s a p .seen m) (a .enables)) 0 (applied (portAt s a p .peeked) s)
+    ≡ answered 0 (wordIn (portAt s a p .seen m) (a .enables)) (knownIn (portAt s a p .seen m) (a .enables)) 0 (applied (portAt s a p .fetched) s)
 read-answer s a p m x n w k ex ew ek en =
     ap₂ (λ (y z : ℕ). answered 0 y z 0 n) ew ek
     ∙ ap₂ (λ (y : Seen) (z : State). answered 0 (wordIn y (a .enables)) (knownIn y (a .enables)) 0 z) ex en
@@ -162,22 +164,33 @@ module _ (s : State) (m l : List ℕ) (a : Access) (p : Place) (ep : p ≡ place
   unfolding portOf
   port = ap (portAt s a) (sym ep)
 
-  read-memory : memoryWith (portAt s a p .peeked) m ≡ m
+  read-memory : memoryWith (portAt s a p .fetched) m ≡ m
   unfolding memoryWith
   read-memory = ap (λ (q : Patch). putAll m (q .puts)) (read-steps s a p)
 
-  done-read : isWrite a ≡ false
-      → doneBy s m l a ≡ settled s m l (applied (portAt s a p .peeked) s) m (wordIn (portAt s a p .seen m) (a .enables)) (knownIn (portAt s a p .seen m) (a .enables))
+  done-read : a .kind ≡ Read
+      → doneBy s m l a ≡ settled s m l (applied (portAt s a p .fetched) s) m (wordIn (portAt s a p .seen m) (a .enables)) (knownIn (portAt s a p .seen m) (a .enables))
   unfolding doneBy stateAfter memoryAfter patchOf seenBy
   done-read e =
-      settled-as s m l _ _ _ _ _ _ _ _ (simp (e, port)) (simp (e, port) read-memory) (simp (e, port)) (simp (e, port))
+      let w = read-writes-not a e in
+      let k = read-looks-not a e in
+      settled-as s m l _ _ _ _ _ _ _ _ (simp (w, k, port)) (simp (w, k, port) read-memory) (simp (w, port)) (simp (w, port))
 
-  done-write : (q : List ℕ) → isWrite a ≡ true → memoryWith (portAt s a p .stored) m ≡ q
+  done-look : a .kind ≡ Look
+      → doneBy s m l a ≡ settled s m l s m (wordIn (portAt s a p .seen m) (a .enables)) (knownIn (portAt s a p .seen m) (a .enables))
+  unfolding doneBy stateAfter memoryAfter patchOf seenBy applied memoryWith
+  done-look e =
+      let k = look-is a e in
+      let w = look-writes-not a k in
+      settled-as s m l _ _ _ _ _ _ _ _ (simp (w, k)) (simp (w, k)) (simp (w, port)) (simp (w, port))
+
+  done-write : (q : List ℕ) → a .kind ≡ Write → memoryWith (portAt s a p .stored) m ≡ q
       → doneBy s m l a ≡ settled s m l (applied (portAt s a p .stored) s) q 0 0
   unfolding doneBy stateAfter memoryAfter patchOf seenBy
   done-write q e h =
-      settled-as s m l _ _ _ _ _ _ _ _ (simp (e, port)) (simp (e, port) h)
-      (simp e (nothing-seen (a .enables))) (simp e (nothing-known (a .enables)))
+      let w = write-is a e in
+      settled-as s m l _ _ _ _ _ _ _ _ (simp (w, port)) (simp (w, port) h)
+      (simp w (nothing-seen (a .enables))) (simp w (nothing-known (a .enables)))
 
 -- ---- one access
 
@@ -214,20 +227,32 @@ module _ (s : State) (m l : List ℕ) (a : Access) (p : Place) (n : ℕ) (f : Fo
       ap (λ (k : ℕ). pick (eqb k 0) (doneBy s m l a) (refused k s m l)) (sym (en s m l a p n f) ∙ h) in
       subst (λ (x : Outcome). Gives x r m′ l′) (sym (z ∙ d)) g
 
-  pub step-read : n ≡ 0 → a .write ≡ 0
-      → r ≡ answered 0 (wordIn (portAt s a p .seen m) (a .enables)) (knownIn (portAt s a p .seen m) (a .enables)) 0 (applied (portAt s a p .peeked) s)
+  pub step-read : n ≡ 0 → a .kind ≡ Read
+      → r ≡ answered 0 (wordIn (portAt s a p .seen m) (a .enables)) (knownIn (portAt s a p .seen m) (a .enables)) 0 (applied (portAt s a p .fetched) s)
       → Gives (stepOf s m l a) r m l
-  step-read h w e = step-done _ m l h (done-read s m l a p (f .place) (read-is a w)) (read s a p m l r _ _ e)
+  step-read h w e = step-done _ m l h (done-read s m l a p (f .place) w) (read s a p m l r _ _ e)
 
-  pub step-window : (i : ℕ) (m′ l′ : List ℕ) → n ≡ 0 → (a .write ≡ 0 → ⊥) → placeOf s a ≡ Window i
+  pub step-window : (i : ℕ) (m′ l′ : List ℕ) → n ≡ 0 → a .kind ≡ Write → placeOf s a ≡ Window i
       → Gives (settled s m l s (putAll m (putsOf (getD (s .values) i 0) (atByte (a .offset)) (a .enables) (a .word))) 0 0) r m′ l′ → Gives (stepOf s m l a) r m′ l′
   unfolding portAt pokePatch applied memoryWith
-  step-window i m′ l′ h w e g = step-done _ m′ l′ h (done-write s m l a (Window i) (sym e) _ (write-is a w) refl) g
+  step-window i m′ l′ h w e g = step-done _ m′ l′ h (done-write s m l a (Window i) (sym e) _ w refl) g
 
-  pub step-write : (l′ : List ℕ) → n ≡ 0 → (a .write ≡ 0 → ⊥) → (a .target ≡ 1 → ⊥) → (a .target ≡ 2 → ⊥)
+  pub step-write : (l′ : List ℕ) → n ≡ 0 → a .kind ≡ Write → (a .target ≡ 1 → ⊥) → (a .target ≡ 2 → ⊥)
       → Gives (settled s m l (applied (portAt s a p .stored) s) m 0 0) r m l′ → Gives (stepOf s m l a) r m l′
   unfolding memoryWith
   step-write l′ h w k j g =
       step-done _ m l′ h
-      (done-write s m l a p (f .place) m (write-is a w)
+      (done-write s m l a p (f .place) m w
       (ap (λ (x : Place). putAll m (portAt s a x .stored .puts)) (f .place) ∙ ap (putAll m) (other-dry s a k j))) g
+
+-- ---- a look: what is seen, with all as it was
+
+module _ (s : State) (m l : List ℕ) (a : Access) (p : Place) (n : ℕ) (f : Found s m l a p n) where
+  pub step-look : (x : Seen) (w k : ℕ) → n ≡ 0 → a .kind ≡ Look → x ≡ portAt s a p .seen m → w ≡ wordIn x (a .enables) → k ≡ knownIn x (a .enables)
+      → Gives (stepOf s m l a) (answered 0 w k 0 s) m l
+  step-look x w k h e ex ew ek =
+      let v = wordIn (portAt s a p .seen m) (a .enables) in
+      let u = knownIn (portAt s a p .seen m) (a .enables) in
+      subst (λ (r : Answer). Gives (stepOf s m l a) r m l)
+      (sym (ap₂ (λ (y z : ℕ). answered 0 y z 0 s) ew ek ∙ ap (λ (y : Seen). answered 0 (wordIn y (a .enables)) (knownIn y (a .enables)) 0 s) ex))
+      (step-done s m l a p n f (answered 0 v u 0 s) _ m l h (done-look s m l a p (f .place) e) (settles s m l s m v u 0 l (still-redraws true _ _ l (λ j. refl))))

@@ -94,7 +94,7 @@ unfolding portAt Aside
 quiet-nowhere d t e s a q = quiet-patch nothingStored s tt refl
 
 -- a read
-pub quiet-read : (s : State) (a : Access) (p : Place) → Quiet s (applied (portAt s a p .peeked) s)
+pub quiet-read : (s : State) (a : Access) (p : Place) → Quiet s (applied (portAt s a p .fetched) s)
 unfolding Aside
 quiet-read s a p m j =
-    quiet-patch (stepOnly (portAt s a p .peeked .dac)) s tt refl m j ∙ ap (λ (q : Patch). wordOf (applied q s) m j) (sym (read-steps s a p))
+    quiet-patch (stepOnly (portAt s a p .fetched .dac)) s tt refl m j ∙ ap (λ (q : Patch). wordOf (applied q s) m j) (sym (read-steps s a p))

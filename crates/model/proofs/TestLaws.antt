@@ -17,7 +17,8 @@ use Rattle.chip.specs.Units.{atByte}
 use Rattle.chip.specs.Aperture.{served, span, reachesMemory}
 use Rattle.chip.specs.Place.{placeOf}
 use Rattle.chip.specs.Port.{Port, portAt}
-use Rattle.chip.specs.Refusal.{Line, line, firstOf, isWrite, portOf, laterLines, accessLines, statusOf}
+use Rattle.chip.specs.Access.{isWrite}
+use Rattle.chip.specs.Refusal.{Line, line, firstOf, portOf, laterLines, accessLines, statusOf}
 use Rattle.chip.specs.Sound.{panelOk, memoryOk, componentOk, addressOk, onceOk, bankSound, isState}
 use Rattle.chip.specs.Palette.{paletteOk}
 use Rattle.model.specs.Parts.{sizesOk}

@@ -14,9 +14,9 @@ use Rattle.chip.specs.declared.Dac.{Dac}
 use Rattle.chip.specs.declared.Palette.{Palette}
 use Rattle.chip.specs.declared.Place.the-variants.{Address, PaletteData}
 use Rattle.chip.specs.Bank.{screenBase, screenStride, pixelMask, colorMode}
-use Rattle.chip.specs.Dac.{aimedAt, afterPeek, afterPaint, completedBy}
+use Rattle.chip.specs.Dac.{aimedAt, afterFetch, afterPaint, completedBy}
 use Rattle.chip.specs.Patch.{painted, applied}
-use Rattle.chip.specs.Port.{aimPatch, peekPatch, keptFrom, paintPatch, portAt}
+use Rattle.chip.specs.Port.{aimPatch, fetchPatch, keptFrom, paintPatch, portAt}
 use Rattle.model.specs.Parts.{rowShows}
 
 -- a state with another RAMDAC and palette
@@ -46,13 +46,13 @@ module _ (s : State) (a : Access) (t : Bool) (et : t ≡ bit 0 (a .enables)) whe
 
 -- the palette's pointer after a read
 module _ (d : Dac) (a : Access) (t : Bool) (et : t ≡ bit 0 (a .enables)) (s : State) (es : s .dac ≡ d) where
-  pub peeked-on : (r : Dac) → t ≡ true → r ≡ afterPeek d → r ≡ Option·getD (portAt s a PaletteData .peeked .dac) (s .dac)
-  unfolding portAt peekPatch
-  peeked-on r e h = h ∙ ap afterPeek (sym es) ∙ simp (sym et ∙ e)
+  pub fetched-on : (r : Dac) → t ≡ true → r ≡ afterFetch d → r ≡ Option·getD (portAt s a PaletteData .fetched .dac) (s .dac)
+  unfolding portAt fetchPatch
+  fetched-on r e h = h ∙ ap afterFetch (sym es) ∙ simp (sym et ∙ e)
 
-  pub peeked-off : t ≡ false → d ≡ Option·getD (portAt s a PaletteData .peeked .dac) (s .dac)
-  unfolding portAt peekPatch
-  peeked-off e = sym es ∙ simp (sym et ∙ e)
+  pub fetched-off : t ≡ false → d ≡ Option·getD (portAt s a PaletteData .fetched .dac) (s .dac)
+  unfolding portAt fetchPatch
+  fetched-off e = sym es ∙ simp (sym et ∙ e)
 
 -- ---- the rows that the picture reads
 

@@ -7,7 +7,8 @@ use Rattle.bits.specs.Choose.{pick}
 use Rattle.chip.specs.declared.State.{State}
 use Rattle.chip.specs.declared.Access.{Access}
 use Rattle.chip.specs.Port.{Port}
-use Rattle.chip.specs.Refusal.{Line, line, firstOf, isWrite}
+use Rattle.chip.specs.Access.{isWrite}
+use Rattle.chip.specs.Refusal.{Line, line, firstOf}
 use Rattle.chip.specs.Sound.{isState}
 
 -- lines 5, 6 and 7, of what the place is and the direction

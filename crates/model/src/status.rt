@@ -1,8 +1,9 @@
-// The refusals of an access, in the order 1 to 7.
+// The refusals of a read, a write and a look, in the order 1 to 7.
 ghost use mathlib.Core.Path.{_≡_};
 ghost use Rattle.chip.specs.declared.Place.the-variants.{Register, Window};
 ghost use Rattle.chip.specs.Port.{portAt};
-ghost use Rattle.chip.specs.Refusal.{isWrite, firstOf};
+ghost use Rattle.chip.specs.Access.{isWrite};
+ghost use Rattle.chip.specs.Refusal.{firstOf};
 ghost use Rattle.model.specs.Stages.{lentOk, formOk, placeLines, laterFrom, statusFrom};
 use chip::Access;
 use chip::Place;
@@ -11,17 +12,12 @@ use registers::bank::held;
 use registers::bank::row_reads;
 use registers::bank::row_writes;
 
-pub(crate) fn is_write(a: Access) -> bool
-    ensures { λ r. ⌜ r ≡ isWrite a ⌝ }
-{
-    a.write != 0
-}
-
 // A register has its directions.
 fn register_status(s: State, a: Access, i: usize) -> u32
     ensures { λ r. ⌜ r ≡ firstOf (placeLines (portAt s a (Register i)) (isWrite a)) ⌝ }
 {
-    if is_write(a) {
+    let k = a.kind;
+    if k.is_write() {
         if row_writes(i) {
             return 0;
         }

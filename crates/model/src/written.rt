@@ -65,23 +65,23 @@ pub(crate) fn written_at(s: State, a: Access, p: Place) -> State
     }
 }
 
-fn dac_peeked(d: Dac, a: Access) -> Dac
-    ensures { λ r. ⌜ ((s : State) → s .dac ≡ d → r ≡ Option·getD (portAt s a PaletteData .peeked .dac) (s .dac)) ⌝ }
+fn dac_fetched(d: Dac, a: Access) -> Dac
+    ensures { λ r. ⌜ ((s : State) → s .dac ≡ d → r ≡ Option·getD (portAt s a PaletteData .fetched .dac) (s .dac)) ⌝ }
 {
     if bit_of(0, a.enables) {
-        return palette::dac::after_peek(d);
+        return palette::dac::after_fetch(d);
     }
     d
 }
 
 // A read alters the palette's address, component and stage, and nothing else: so the state is made anew once, where it is answered.
 pub(crate) fn dac_after(d: Dac, a: Access, p: Place) -> Dac
-    ensures { λ r. ⌜ ((s : State) → s .dac ≡ d → r ≡ Option·getD (portAt s a p .peeked .dac) (s .dac)) ⌝ }
+    ensures { λ r. ⌜ ((s : State) → s .dac ≡ d → r ≡ Option·getD (portAt s a p .fetched .dac) (s .dac)) ⌝ }
 {
     match p {
         Place::Register(i) => d,
         Place::Address => d,
-        Place::PaletteData => dac_peeked(d, a),
+        Place::PaletteData => dac_fetched(d, a),
         Place::Window(i) => d,
         Place::Blank => d,
         Place::Nowhere => d,

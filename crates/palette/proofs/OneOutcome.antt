@@ -3,7 +3,7 @@
 use Rattle.bits.proofs.Cases.{same-value}
 use Rattle.bits.proofs.Fixes.{Fixes}
 use Rattle.palette.proofs.dac.aimed_at.Reads as aimed-at
-use Rattle.palette.proofs.dac.after_peek.Reads as after-peek
+use Rattle.palette.proofs.dac.after_fetch.Reads as after-fetch
 use Rattle.palette.proofs.dac.after_paint.Reads as after-paint
 use Rattle.palette.proofs.dac.completes.Reads as completes
 use Rattle.palette.proofs.dac.dac_sound.Reads as dac-sound
@@ -21,8 +21,8 @@ use Rattle.palette.proofs.entries.empty_palette.Reads as empty-palette
 pub aimed-at-one : Fixes aimed-at.Post
 aimed-at-one κs a r r′ x x′ p q = same-value p q
 
-pub after-peek-one : Fixes after-peek.Post
-after-peek-one κs a r r′ x x′ p q = same-value p q
+pub after-fetch-one : Fixes after-fetch.Post
+after-fetch-one κs a r r′ x x′ p q = same-value p q
 
 pub after-paint-one : Fixes after-paint.Post
 after-paint-one κs a r r′ x x′ p q = same-value p q

@@ -18,11 +18,11 @@ use Rattle.chip.specs.declared.State.{State}
 use Rattle.chip.specs.declared.Access.{Access}
 use Rattle.chip.specs.declared.Dac.{Dac}
 use Rattle.chip.specs.declared.Place.the-variants.{PaletteData}
-use Rattle.chip.specs.Dac.{resetDac, aimedAt, advanced, afterPeek}
+use Rattle.chip.specs.Dac.{resetDac, aimedAt, advanced, afterFetch}
 use Rattle.chip.specs.Patch.{applied}
 use Rattle.chip.specs.Place.{placeOf}
 use Rattle.chip.specs.Port.{keptFrom}
-use Rattle.chip.specs.Refusal.{isWrite}
+use Rattle.chip.specs.Access.{isWrite}
 use Rattle.chip.specs.State.{resetState}
 use Rattle.chip.specs.Sound.{componentOk}
 use Rattle.chip.specs.Trace.{World, opened, after, run}
@@ -37,6 +37,7 @@ use Rattle.promises.proofs.Patches.{dacPut}
 use Rattle.promises.proofs.Sane.{sane}
 use Rattle.promises.proofs.Dacs.{paint-advances}
 use Rattle.promises.proofs.Does.{stepped, does}
+use Rattle.promises.proofs.DataParts.{data-parts}
 use Rattle.promises.proofs.Sites.{names}
 use Rattle.promises.proofs.Worlds.{after-state, good-kept, good-along, opens, opened-good}
 use Rattle.promises.proofs.Along.{Found, find, later-none}
@@ -63,14 +64,14 @@ sets-address x a e =
 
 pub writes-part : (x : World) (a : Access) → isWrite a ≡ true → isData x a ≡ true
     → WritesPart x a (x .state .dac .address) (x .state .dac .component) (keptFrom (x .state) a)
-unfolding isData accepted
+unfolding accepted
 writes-part x a w e =
-    let r = and-second (eqb (statusAt x a) 0) _ e in
+    let r = data-parts x a e in
     record {
-      accepted = eqb-true (statusAt x a) 0 (and-first (eqb (statusAt x a) 0) _ e);
+      accepted = eqb-true (statusAt x a) 0 (r .accepted);
       write = w;
-      place = names (placeOf (x .state) a) .paints (and-first (reachAt (placeOf (x .state) a) .paints) (bit 0 (a .enables)) r);
-      lane = and-second (reachAt (placeOf (x .state) a) .paints) (bit 0 (a .enables)) r;
+      place = names (placeOf (x .state) a) .paints (r .paints);
+      lane = r .lane;
       entry = refl;
       component = refl;
       value = kept-told (x .state) a;
@@ -83,10 +84,9 @@ is-aim x a v q = simp (eq-eqb (statusAt x a) 0 (q .accepted), q .write, q .place
 
 -- an access to palette data sets no address
 pub data-not-aim : (x : World) (a : Access) → isData x a ≡ true → isAim x a ≡ false
-unfolding isData isAim reachAt
+unfolding isAim reachAt
 data-not-aim x a e =
-    let p : placeOf (x .state) a ≡ PaletteData =
-    names (placeOf (x .state) a) .paints (and-first (reachAt (placeOf (x .state) a) .paints) _ (and-second (accepted x a) _ e)) in
+    let p : placeOf (x .state) a ≡ PaletteData = names (placeOf (x .state) a) .paints (data-parts x a e .paints) in
     simp (p, and-false)
 
 -- ---- one access moves the position by one, or not at all
@@ -120,7 +120,7 @@ not-aim true v e = cc
 not-aim false v e = refl
 
 moved-by : (x : World) (a : Access) → Good x → aimPut x a ≡ none → Moved (x .state .dac) (after x a .state .dac) (pick (isData x a) 1 0)
-unfolding aimPut afterPeek
+unfolding aimPut afterFetch
 moved-by x a g e =
     let ha = g .formed .address in
     let hc = component-le x g in

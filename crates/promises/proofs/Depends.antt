@@ -25,12 +25,13 @@ use Rattle.chip.specs.Picture.{viewWord, wordOf}
 use Rattle.chip.specs.Place.{placeAt, placeOf}
 use Rattle.chip.specs.Patch.{memoryWith}
 use Rattle.chip.specs.Port.{knownIn, wordIn, wide, pokePatch, portAt}
-use Rattle.chip.specs.Refusal.{line, firstOf, isWrite, portOf, laterLines, accessLines, statusOf}
+use Rattle.chip.specs.Access.{isWrite}
+use Rattle.chip.specs.Refusal.{line, firstOf, portOf, laterLines, accessLines, statusOf}
 use Rattle.chip.specs.Trace.{World, step, after}
 use Rattle.promises.specs.Good.{Good, statusAt}
 use Rattle.promises.specs.Reach.{reachAt}
 use Rattle.promises.specs.Places.{Leads, one, two}
-use Rattle.promises.specs.History.{accepted, AcceptedRead}
+use Rattle.promises.specs.History.{accepted, Seeing}
 use Rattle.promises.specs.View.{SameAnswer, SameWindow, command, ButRow}
 use Rattle.promises.proofs.Does.{putsFrom, fitsFrom, servedFrom, ways, does}
 use Rattle.promises.proofs.Sites.{names, window-there}
@@ -104,7 +105,7 @@ module _ (x y : World) (a : Access) (p : Place) (g : Good x) (h : Good y) (e : p
       ∙ ap (putAll (z .memory)) (does z a .puts ∙ ap (λ (r : Place). pick (accepted z a && isWrite a) (putsFrom (z .state) a (reachAt r .window)) []) k)
 
   -- a read of both, or neither an answer
-  by-way : (P : Type 0) → statusAt y a ≡ statusAt x a → (AcceptedRead x a → AcceptedRead y a → P) → (Silent x a → Silent y a → P) → P
+  by-way : (P : Type 0) → statusAt y a ≡ statusAt x a → (Seeing x a → Seeing y a → P) → (Silent x a → Silent y a → P) → P
   by-way P n r s =
       byTest (isWrite a)
       (λ w. s (silent-write x a w) (silent-write y a w))

@@ -1,5 +1,5 @@
 -- What an access is asked and stores, part by part, from what its place reaches: the one place here that goes through the places for it.
--- By the place that the access leads to; then whether it is accepted, and a write. Assumes nothing.
+-- By the place that the access leads to; then whether it is accepted, a write, or a look. Assumes nothing.
 use Prim.Native.Nat.{ℕ}
 use mathlib.Core.Bool.{Bool, true, false, _&&_}
 use mathlib.Core.List.{List, []}
@@ -15,16 +15,18 @@ use Rattle.chip.specs.declared.Access.{Access}
 use Rattle.chip.specs.declared.Dac.{Dac}
 use Rattle.chip.specs.declared.Place.{Place}
 use Rattle.chip.specs.declared.Place.the-variants.{Register, Address, PaletteData, Window, Blank, Nowhere}
-use Rattle.chip.specs.Dac.{aimedAt, afterPeek, afterPaint, completedBy}
+use Rattle.chip.specs.Dac.{aimedAt, afterFetch, afterPaint, completedBy}
 use Rattle.chip.specs.Bank.{bankRow}
 use Rattle.chip.specs.Units.{atByte}
 use Rattle.chip.specs.Aperture.{served, span, reachesMemory, Put}
 use Rattle.chip.specs.Patch.{Store}
 use Rattle.chip.specs.Place.{placeOf}
-use Rattle.chip.specs.Port.{rowPatch, aimPatch, peekPatch, keptFrom, paintPatch, pokePatch, portAt}
-use Rattle.chip.specs.Refusal.{isWrite, portOf}
+use Rattle.chip.specs.Port.{rowPatch, aimPatch, fetchPatch, keptFrom, paintPatch, pokePatch, portAt}
+use Rattle.chip.specs.Access.{isWrite, isLook}
+use Rattle.chip.specs.Refusal.{portOf}
 use Rattle.chip.specs.Step.{patchOf}
 use Rattle.chip.specs.Trace.{World}
+use Rattle.chip.proofs.Operations.{write-looks-not}
 use Rattle.promises.specs.Reach.{reachAt}
 use Rattle.promises.specs.History.{accepted, isData, isAim}
 use Rattle.promises.proofs.Patches.{patchAt}
@@ -85,14 +87,14 @@ record Told (s : State) (a : Access) (p : Place) : Type 0 where
       (pick (reachAt p .paints && bit 0 (a .enables)) (some (afterPaint (s .dac) (keptFrom s a))) none)
   paint : portAt s a p .stored .paint ≡ pick (reachAt p .paints && bit 0 (a .enables)) (completedBy (s .dac) (keptFrom s a)) none
   puts : portAt s a p .stored .puts ≡ putsFrom s a (reachAt p .window)
-  read-store : portAt s a p .peeked .store ≡ none
-  read-once : portAt s a p .peeked .once ≡ none
-  read-dac : portAt s a p .peeked .dac ≡ pick (reachAt p .paints && bit 0 (a .enables)) (some (afterPeek (s .dac))) none
-  read-paint : portAt s a p .peeked .paint ≡ none
-  read-puts : portAt s a p .peeked .puts ≡ []
+  read-store : portAt s a p .fetched .store ≡ none
+  read-once : portAt s a p .fetched .once ≡ none
+  read-dac : portAt s a p .fetched .dac ≡ pick (reachAt p .paints && bit 0 (a .enables)) (some (afterFetch (s .dac))) none
+  read-paint : portAt s a p .fetched .paint ≡ none
+  read-puts : portAt s a p .fetched .puts ≡ []
 
 told : (s : State) (a : Access) (p : Place) → Told s a p
-unfolding portAt reachAt aimPatch peekPatch paintPatch pokePatch rowPatch
+unfolding portAt reachAt aimPatch fetchPatch paintPatch pokePatch rowPatch
 told s a (Register i) = record { store = refl; once = refl; dac = refl; paint = refl; puts = refl; read-store = refl; read-once = refl; read-dac = refl; read-paint = refl; read-puts = refl }
 told s a Address = record { store = refl; once = refl; dac = refl; paint = refl; puts = refl; read-store = refl; read-once = refl; read-dac = refl; read-paint = refl; read-puts = refl }
 told s a PaletteData = record { store = refl; once = refl; dac = refl; paint = refl; puts = refl; read-store = refl; read-once = refl; read-dac = refl; read-paint = refl; read-puts = refl }
@@ -104,7 +106,7 @@ told s a Nowhere = record { store = refl; once = refl; dac = refl; paint = refl;
 
 -- the RAMDAC's pointer after a palette data access
 abbrev pub stepped : State → Access → Dac
-stepped s a = pick (isWrite a) (afterPaint (s .dac) (keptFrom s a)) (afterPeek (s .dac))
+stepped s a = pick (isWrite a) (afterPaint (s .dac) (keptFrom s a)) (afterFetch (s .dac))
 
 -- an accepted write
 abbrev pub writes : World → Access → Bool
@@ -124,12 +126,17 @@ unfolding patchAt patchOf portOf isAim isData
 does x a =
     let z = told (x .state) a (placeOf (x .state) a) in
     record {
-      store = by-way (λ t w. simp (t, w) (z .store)) (λ t w. simp (t, w) (z .read-store)) (λ t. simp t);
-      once = by-way (λ t w. simp (t, w) (z .once)) (λ t w. simp (t, w) (z .read-once)) (λ t. simp t);
-      dac = by-way (λ t w. simp (t, w) (z .dac)) (λ t w. simp (t, w) (z .read-dac)) (λ t. simp t);
-      paint = by-way (λ t w. simp (t, w) (z .paint)) (λ t w. simp (t, w) (z .read-paint)) (λ t. byTest (isWrite a) (λ w. simp (t, w)) (λ w. simp (t, w)));
-      puts = by-way (λ t w. simp (t, w) (z .puts)) (λ t w. simp (t, w) (z .read-puts)) (λ t. simp t);
+      store = by-way (λ t w k. simp (t, w) (z .store)) (λ t w k. simp (t, w, k) (z .read-store)) (λ t w k. simp (t, w, k)) (λ t. simp t);
+      once = by-way (λ t w k. simp (t, w) (z .once)) (λ t w k. simp (t, w, k) (z .read-once)) (λ t w k. simp (t, w, k)) (λ t. simp t);
+      dac = by-way (λ t w k. simp (t, w, k) (z .dac)) (λ t w k. simp (t, w, k) (z .read-dac)) (λ t w k. simp (t, w, k)) (λ t. simp t);
+      paint =
+          by-way (λ t w k. simp (t, w, k) (z .paint)) (λ t w k. simp (t, w, k) (z .read-paint)) (λ t w k. simp (t, w, k))
+          (λ t. byTest (isWrite a) (λ w. simp (t, w)) (λ w. simp (t, w)));
+      puts = by-way (λ t w k. simp (t, w) (z .puts)) (λ t w k. simp (t, w, k) (z .read-puts)) (λ t w k. simp (t, w, k)) (λ t. simp t);
     }
   where
-    by-way : {P : Type 0} → (accepted x a ≡ true → isWrite a ≡ true → P) → (accepted x a ≡ true → isWrite a ≡ false → P) → (accepted x a ≡ false → P) → P
-    by-way f g h = byTest (accepted x a) (λ t. byTest (isWrite a) (f t) (g t)) h
+    -- an accepted write, an accepted read, an accepted look; refused
+    by-way : {P : Type 0} → (accepted x a ≡ true → isWrite a ≡ true → isLook a ≡ false → P) → (accepted x a ≡ true → isWrite a ≡ false → isLook a ≡ false → P)
+        → (accepted x a ≡ true → isWrite a ≡ false → isLook a ≡ true → P) → (accepted x a ≡ false → P) → P
+    by-way f g k h =
+        byTest (accepted x a) (λ t. byTest (isWrite a) (λ w. f t w (write-looks-not a w)) (λ w. byTest (isLook a) (k t w) (g t w))) h

@@ -25,7 +25,7 @@ use Rattle.chip.specs.Subsystem.{storedBits, fixedBy}
 use Rattle.chip.specs.Patch.{Patch, Store, valued, learned, applied, memoryWith}
 use Rattle.chip.specs.Place.{placeOf}
 use Rattle.chip.specs.Port.{rowPatch}
-use Rattle.chip.specs.Refusal.{isWrite}
+use Rattle.chip.specs.Access.{isWrite}
 use Rattle.chip.specs.Picture.{diffs}
 use Rattle.chip.specs.Trace.{World, step, after}
 use Rattle.chip.proofs.Redraw.{diffs-self}

@@ -17,11 +17,11 @@ use Rattle.chip.specs.declared.Dac.{Dac}
 use Rattle.chip.specs.declared.Palette.{Palette}
 use Rattle.chip.specs.Palette.{paletteOk}
 use Rattle.chip.specs.Bank.{bankCount}
-use Rattle.chip.specs.Dac.{Paint, afterPeek}
+use Rattle.chip.specs.Dac.{Paint, afterFetch}
 use Rattle.chip.specs.Patch.{Store, Patch, valued, learned, painted, applied}
 use Rattle.chip.specs.Place.{placeOf}
 use Rattle.chip.specs.Port.{rowPatch, keptFrom}
-use Rattle.chip.specs.Refusal.{isWrite}
+use Rattle.chip.specs.Access.{isWrite}
 use Rattle.chip.specs.Sound.{onceOk, bankSound}
 use Rattle.chip.specs.Trace.{World}
 use Rattle.chip.proofs.Entries.{Entries, entries-kept, palette-kept}
@@ -33,6 +33,7 @@ use Rattle.promises.proofs.Sane.{Sane, sane}
 use Rattle.promises.proofs.Bank.{bank-kept, once-kept}
 use Rattle.promises.proofs.Dacs.{Settled, paint-advances, advanced-settled, aimed-settled, lane-byte-lt}
 use Rattle.promises.proofs.Does.{storeFrom, onceFrom, stepped, writes, does}
+use Rattle.promises.proofs.DataParts.{data-parts}
 use Rattle.promises.proofs.Sites.{names, address-there}
 
 pub record Kept (s : State) : Type 0 where
@@ -117,7 +118,7 @@ module _ (s : State) (z : Sane s) (f : Formed s) where
 
   -- a palette data access, where the address is known
   stepped-settled : (a : Access) → s .dac .known ≡ 0xFF → Settled (stepped s a)
-  unfolding afterPeek
+  unfolding afterFetch
   stepped-settled a k =
       pick-by Settled (isWrite a) _ _
       (paint-advances Settled (s .dac) (keptFrom s a) (λ n r g. advanced-settled (s .dac) n r g k (f .address)))
@@ -125,10 +126,7 @@ module _ (s : State) (z : Sane s) (f : Formed s) where
 
 module _ (x : World) (a : Access) (g : Good x) where
   data-known : isData x a ≡ true → x .state .dac .known ≡ 0xFF
-  unfolding isData
-  data-known e =
-      address-there (x .state) a (names (placeOf (x .state) a) .paints
-      (and-first (reachAt (placeOf (x .state) a) .paints) (bit 0 (a .enables)) (and-second (accepted x a) _ e)))
+  data-known e = address-there (x .state) a (names (placeOf (x .state) a) .paints (data-parts x a e .paints))
 
   abbrev Bank : Option Store → Option ℕ → Type 0
   Bank o h = Banked (x .state) (sane (x .state) (g .state)) (g .formed) o h

@@ -24,19 +24,20 @@ use Rattle.chip.specs.declared.Place.the-variants.{Register, Address, PaletteDa
 use Rattle.chip.specs.Palette.{entryOf}
 use Rattle.chip.specs.Place.{placeOf}
 use Rattle.chip.specs.Port.{portAt}
-use Rattle.chip.specs.Refusal.{isWrite, portOf}
+use Rattle.chip.specs.Access.{isWrite}
+use Rattle.chip.specs.Refusal.{portOf}
 use Rattle.chip.specs.Trace.{World, opened, step, after, run}
 use Rattle.promises.specs.Along.{lastPut}
 use Rattle.promises.specs.Good.{Good, Openable, statusAt}
 use Rattle.promises.specs.Width.{readByte, componentOf}
-use Rattle.promises.specs.History.{AcceptedRead, seenBit, shows, partBit, spot, holds, aimPut}
+use Rattle.promises.specs.History.{Seeing, seenBit, shows, partBit, spot, holds, aimPut}
 use Rattle.promises.specs.Frame.{laneAt}
 use Rattle.promises.specs.Origin.{SetBy, ByteStored, ByteLent, BitStored, BitStated, AddressSet, AddressAt}
 use Rattle.promises.specs.Told.{Told, stored, stated, blank, address, palette, poked, lent, ShownBy}
 use Rattle.promises.proofs.Options.{absurd-put, some-is, picked}
 use Rattle.promises.proofs.Sites.{row-there, address-there}
 use Rattle.promises.proofs.Places.{leads-place, leads-register, leads-address, leads-palette, leads-window, leads-blank}
-use Rattle.chip.proofs.Refusals.{is-read, read-is}
+use Rattle.chip.proofs.Operations.{is-read, read-is}
 use Rattle.promises.proofs.Passed.{found-test}
 use Rattle.promises.proofs.Worlds.{good-along, opened-good, opens, memory-along}
 use Rattle.promises.proofs.Shown.{found, shows-register, shows-blank, shows-address, shows-palette, shows-memory}
@@ -86,7 +87,7 @@ module _ (w h : ℕ) (m p : List ℕ) (o : Openable w h m p) (l : List Access) (
   good = good-along (opened w h m p) l (opened-good w h m p o)
 
   -- only an accepted read shows anything
-  accepted-read : shows (step x a .answer) b ≡ some v → AcceptedRead x a
+  accepted-read : shows (step x a .answer) b ≡ some v → Seeing x a
   accepted-read e =
       byTest (isWrite a)
       (λ t. absurd-put _ v (shows-nothing (step x a .answer) b (writes-answer-zero x a t .1)) e)
@@ -97,7 +98,7 @@ module _ (w h : ℕ) (m p : List ℕ) (o : Openable w h m p) (l : List Access) (
       (shows-nothing (step x a .answer) b
       (refused-alters-nothing x a (λ z. clash _ (ap (λ (k : ℕ). eqb k 0) (sym (access-status x a) ∙ z)) q) .known)) e))
 
-  module _ (q : AcceptedRead x a) where
+  module _ (q : Seeing x a) where
     abbrev lane : Bool
     lane = bit (b / 8) (a .enables)
 
@@ -184,11 +185,11 @@ module _ (w h : ℕ) (m p : List ℕ) (o : Openable w h m p) (l : List Access) (
   -- ---- both ways
 
   -- an accepted access leads somewhere
-  leads-on : AcceptedRead x a → placeOf (x .state) a ≡ Nowhere → ⊥
+  leads-on : Seeing x a → placeOf (x .state) a ≡ Nowhere → ⊥
   unfolding portOf portAt
   leads-on q e = clash false (subst (λ (s : Place). portAt (x .state) a s .present ≡ true) e (found (x .state) _ _ a (q .done))) refl
 
-  told-at : (q : AcceptedRead x a) (s : Place) → placeOf (x .state) a ≡ s → shows (step x a .answer) b ≡ some v → (bit (b / 8) (a .enables) ≡ true) × Told (opened w h m p) l a b v
+  told-at : (q : Seeing x a) (s : Place) → placeOf (x .state) a ≡ s → shows (step x a .answer) b ≡ some v → (bit (b / 8) (a .enables) ≡ true) × Told (opened w h m p) l a b v
   told-at q (Register r) e f =
       let z = picked (bit (b / 8) (a .enables)) (holds (x .state) (spot r b)) v (sym (shows-register x a b q hb r e) ∙ f) in
       (z .0, register-told q r e (z .1))
@@ -212,14 +213,14 @@ module _ (w h : ℕ) (m p : List ℕ) (o : Openable w h m p) (l : List Access) (
   unfolding partBit
   part-is c e f = seen-is (bit b 0xFF) (bit b (readByte (x .state) (componentOf (x .state .dac .component) c))) v e f
 
-  memory-shown : (q : AcceptedRead x a) → bit (b / 8) (a .enables) ≡ true → (i : ℕ) → placeOf (x .state) a ≡ Window i → (u : ℕ)
+  memory-shown : (q : Seeing x a) → bit (b / 8) (a .enables) ≡ true → (i : ℕ) → placeOf (x .state) a ≡ Window i → (u : ℕ)
       → ByteStored (opened w h m p) l (a .offset + laneAt (getD (x .state .values) i 0) (b / 8)) u ⊎ ByteLent (opened w h m p) l (a .offset + laneAt (getD (x .state .values) i 0) (b / 8)) u
       → v ≡ bit (b % 8) u → shows (step x a .answer) b ≡ some v
   memory-shown q t i e u f g =
       let y = byte-exactly w h m p o l (a .offset + laneAt (getD (x .state .values) i 0) (b / 8)) (fitted q i e) u .1 f in
       shows-memory x a b q hb good i e ∙ simp (t, y) (ap some (sym g))
 
-  shown : (q : AcceptedRead x a) → bit (b / 8) (a .enables) ≡ true → Told (opened w h m p) l a b v → shows (step x a .answer) b ≡ some v
+  shown : (q : Seeing x a) → bit (b / 8) (a .enables) ≡ true → Told (opened w h m p) l a b v → shows (step x a .answer) b ≡ some v
   shown q t (stored r d f) =
       let e = leads-place (x .state) a (Register r) d in
       shows-register x a b q hb r e ∙ simp t (bit-exactly w h m p o l (spot r b) (record { row = row-there (x .state) a r e; bit = hb }) v .1 (inl f))

@@ -27,13 +27,14 @@ use Rattle.chip.specs.Subsystem.{storedBits, fixedBy}
 use Rattle.chip.specs.Place.{placeAt, placeOf}
 use Rattle.chip.specs.Palette.{entryOf}
 use Rattle.chip.specs.Port.{seenPart, knownIn, wordIn, wide, portAt}
-use Rattle.chip.specs.Refusal.{isWrite, portOf}
+use Rattle.chip.specs.Access.{isWrite}
+use Rattle.chip.specs.Refusal.{portOf}
 use Rattle.chip.specs.Trace.{World, step}
 use Rattle.chip.proofs.Computed.{computed}
 use Rattle.promises.specs.Good.{Good, statusAt}
 use Rattle.promises.specs.Reach.{reachAt}
 use Rattle.promises.specs.Places.{Leads, address, palette, indexed, region, one, two, header, blank}
-use Rattle.promises.specs.History.{AcceptedRead, isAim, isData}
+use Rattle.promises.specs.History.{Seeing, isAim, isData}
 use Rattle.promises.specs.Refusals.{freeBit, IsState, Words}
 use Rattle.promises.specs.View.{Idle}
 use Rattle.promises.proofs.Clauses.{clauses}
@@ -197,7 +198,7 @@ module _ (x : World) (a : Access) (h : Words (x .state)) (t : a .target ≡ 0) (
         byTest (isWrite a)
         (λ w. write-answers x a w .0)
         (λ w.
-        let q : AcceptedRead x a = record { read = w; done = d } in
+        let q : Seeing x a = record { read = w; done = d } in
         let z = inside-le (sees x a .value) (knownIn (sees x a) (a .enables)) in
         let y = answer-known x a q in
         let v = answer-word x a q in

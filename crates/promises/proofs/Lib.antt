@@ -6,6 +6,7 @@ pub mod Moved
 pub mod Bank
 pub mod Dacs
 pub mod Does
+pub mod DataParts
 pub mod Sites
 pub mod Places
 pub mod Passed
@@ -47,3 +48,5 @@ pub mod Promise4Lanes
 pub mod Promise5Picture
 pub mod Promise6Altered
 pub mod Promise7Depends
+pub mod Looks
+pub mod Promise9Looks

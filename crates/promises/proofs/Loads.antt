@@ -18,9 +18,10 @@ use Rattle.chip.specs.declared.Access.{Access}
 use Rattle.chip.specs.declared.Dac.{Dac}
 use Rattle.chip.specs.declared.Colour.{Colour}
 use Rattle.chip.specs.Palette.{entryCount, entryOf}
-use Rattle.chip.specs.Dac.{Paint, aimedAt, advanced, afterPeek, redStaged, bothStaged, afterPaint, completedBy}
+use Rattle.chip.specs.Dac.{Paint, aimedAt, advanced, afterFetch, redStaged, bothStaged, afterPaint, completedBy}
 use Rattle.chip.specs.Port.{keptFrom}
-use Rattle.chip.specs.Refusal.{isWrite}
+use Rattle.chip.specs.Access.{isWrite}
+use Rattle.chip.proofs.Operations.{write-looks-not}
 use Rattle.chip.specs.Trace.{World, after, run}
 use Rattle.promises.specs.Good.{Good, statusAt}
 use Rattle.promises.specs.Reach.{reachAt}
@@ -135,7 +136,7 @@ record Paints (x : World) (a : Access) (n : Dac) : Type 0 where
   after-it : n ≡ afterPaint (x .state .dac) (keptFrom (x .state) a)
 
 paints : (x : World) (a : Access) (n : Dac) → dacPut x a ≡ some n → (n .staged ≡ 0 → ⊥) → Paints x a n
-unfolding aimedAt afterPeek
+unfolding aimedAt afterFetch
 paints x a n q d =
     let e : pick (isAim x a) (some (aimedAt (laneByte 0 (a .word)))) (pick (isData x a) (some (stepped (x .state) a)) none) ≡ some n = sym (does x a .dac) ∙ q in
     byTest (isAim x a)
@@ -305,7 +306,7 @@ part-data : (y : World) (b : Access) (e c v : ℕ) → WritesPart y b e c v → 
 unfolding isData isAim accepted reachAt
 part-data y b e c v p =
     record {
-      is-data = simp (eq-eqb (statusAt y b) 0 (p .accepted), p .place, p .lane);
+      is-data = simp (eq-eqb (statusAt y b) 0 (p .accepted), write-looks-not b (p .write), p .place, p .lane);
       aim = simp (eq-eqb (statusAt y b) 0 (p .accepted), p .write, p .place);
     }
 

@@ -8,19 +8,21 @@ use mathlib.Core.Path.{_≡_, refl, ap}
 use borrow.Author.Tests.{eqb-true, eq-eqb}
 use Rattle.bits.specs.Bit.{bit}
 use Rattle.bits.proofs.Cases.{byTest}
-use Rattle.bits.proofs.Bools.{and-first, and-second, clash}
+use Rattle.bits.proofs.Bools.{and-first, and-second, clash, and-false}
 use Rattle.chip.specs.declared.Access.{Access}
+use Rattle.chip.specs.declared.Kind.the-variants.{Write, Look}
 use Rattle.chip.specs.declared.Place.the-variants.{Register, Address, PaletteData}
 use Rattle.chip.specs.Place.{placeOf}
-use Rattle.chip.specs.Refusal.{isWrite}
+use Rattle.chip.specs.Access.{isWrite}
 use Rattle.chip.specs.Trace.{World}
-use Rattle.chip.proofs.Refusals.{is-write, write-is}
+use Rattle.chip.proofs.Operations.{is-write, write-is, is-no-look, no-look-is}
 use Rattle.promises.specs.Good.{statusAt}
 use Rattle.promises.specs.Reach.{reachAt}
 use Rattle.promises.specs.Places.{Leads}
 use Rattle.promises.specs.History.{accepted, Spot, isData, isAim}
 use Rattle.promises.specs.Frame.{isRow, writesRow, moves, Moves}
 use Rattle.promises.specs.Loads.{disturbs, Disturbs}
+use Rattle.promises.proofs.DataParts.{data-parts}
 use Rattle.promises.proofs.Sites.{names}
 use Rattle.promises.proofs.Places.{leads-place, leads-register, leads-address, leads-palette}
 
@@ -63,13 +65,12 @@ module _ (x : World) (a : Access) where
   -- ---- a load
 
   by-data : isData x a ≡ true → Disturbs x a
-  unfolding isData
   by-data e =
-      let u = and-second (accepted x a) _ e in
+      let u = data-parts x a e in
       record {
-        accepted = done (and-first (accepted x a) _ e);
-        lane = and-second (reachAt (placeOf (x .state) a) .paints) _ u;
-        by = inl (leads-palette (x .state) a (names (placeOf (x .state) a) .paints (and-first (reachAt (placeOf (x .state) a) .paints) _ u)));
+        accepted = done (u .accepted);
+        lane = u .lane;
+        by = inl (is-no-look a (u .steps), leads-palette (x .state) a (names (placeOf (x .state) a) .paints (u .paints)));
       }
 
   by-aim : isAim x a ≡ true → Disturbs x a
@@ -94,9 +95,9 @@ module _ (x : World) (a : Access) where
   unfolding disturbs isData isAim reachAt
   disturbs-by f = go (f .by)
     where
-      go : Leads (x .state) a PaletteData ⊎ ((a .write ≡ 0 → ⊥) × Leads (x .state) a Address) → disturbs x a ≡ true
-      go (inl d) = simp (is-done (f .accepted), leads-place (x .state) a PaletteData d, f .lane)
-      go (inr d) = simp (is-done (f .accepted), write-is a (d .0), leads-place (x .state) a Address (d .1), f .lane)
+      go : ((a .kind ≡ Look → ⊥) × Leads (x .state) a PaletteData) ⊎ ((a .kind ≡ Write) × Leads (x .state) a Address) → disturbs x a ≡ true
+      go (inl d) = simp (is-done (f .accepted), no-look-is a (d .0), leads-place (x .state) a PaletteData (d .1), f .lane)
+      go (inr d) = simp (is-done (f .accepted), write-is a (d .0), and-false, leads-place (x .state) a Address (d .1), f .lane)
 
   pub disturbs-meant : (disturbs x a ≡ true) ↔ Disturbs x a
   disturbs-meant = (disturbed, disturbs-by)

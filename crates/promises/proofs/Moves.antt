@@ -23,7 +23,7 @@ use Rattle.chip.specs.Register.{mayChange, movedBits, broughtWord}
 use Rattle.chip.specs.Patch.{applied}
 use Rattle.chip.specs.Place.{placeOf}
 use Rattle.chip.specs.Port.{rowPatch}
-use Rattle.chip.specs.Refusal.{isWrite}
+use Rattle.chip.specs.Access.{isWrite}
 use Rattle.chip.specs.Trace.{World, after}
 use Rattle.chip.proofs.Tables.{bank-rule}
 use Rattle.promises.specs.Good.{Good, statusAt}

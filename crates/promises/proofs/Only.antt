@@ -15,9 +15,9 @@ use Rattle.chip.specs.declared.Access.{Access}
 use Rattle.chip.specs.declared.Colour.{Colour}
 use Rattle.chip.specs.declared.Dac.{Dac}
 use Rattle.chip.specs.Palette.{entryCount, entryOf}
-use Rattle.chip.specs.Dac.{aimedAt, advanced, afterPeek, redStaged, bothStaged, afterPaint, completedBy}
+use Rattle.chip.specs.Dac.{aimedAt, advanced, afterFetch, redStaged, bothStaged, afterPaint, completedBy}
 use Rattle.chip.specs.Port.{keptFrom}
-use Rattle.chip.specs.Refusal.{isWrite}
+use Rattle.chip.specs.Access.{isWrite}
 use Rattle.chip.specs.Trace.{World, after}
 use Rattle.promises.specs.Good.{Good}
 use Rattle.promises.specs.Width.{storedByte}
@@ -67,7 +67,7 @@ advanced-is d n r g hc ha =
     (λ q. let h = ltb-false (d .component) 2 q in simp q (record { component = omega arith; address = omega arith; known = refl }))
 
 pub data-after : (x : World) (a : Access) → Good x → isData x a ≡ true → Advanced (x .state .dac) (after x a .state .dac)
-unfolding afterPeek
+unfolding afterFetch
 data-after x a g t =
     let hc = component-le x g in
     let ha = g .formed .address in
@@ -106,7 +106,7 @@ stages-after x a t w =
     (subst (λ (v : ℕ). Stages (x .state .dac) (afterPaint (x .state .dac) (keptFrom (x .state) a)) v) (kept-told (x .state) a) (painted-stages (x .state .dac) (keptFrom (x .state) a)))
 
 pub drops-after : (x : World) (a : Access) → isData x a ≡ true → isWrite a ≡ false → Unstaged (after x a .state .dac)
-unfolding afterPeek
+unfolding afterFetch
 drops-after x a t w = subst Unstaged (sym (dac-after x a t ∙ simp w)) (dropped (x .state .dac))
 
 -- anything else

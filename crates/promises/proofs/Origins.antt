@@ -15,7 +15,7 @@ use Rattle.chip.specs.declared.Access.{Access}
 use Rattle.chip.specs.declared.Place.the-variants.{Window}
 use Rattle.chip.specs.Palette.{entryCount, emptyPalette, entryOf}
 use Rattle.chip.specs.Place.{placeOf}
-use Rattle.chip.specs.Refusal.{isWrite}
+use Rattle.chip.specs.Access.{isWrite}
 use Rattle.chip.specs.State.{resetState}
 use Rattle.chip.specs.Trace.{World, opened, after, run}
 use Rattle.chip.proofs.Tables.{resets-at, knowns-at}

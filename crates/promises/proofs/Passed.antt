@@ -21,9 +21,10 @@ use Rattle.chip.specs.declared.Place.the-variants.{Register, Window}
 use Rattle.chip.specs.Aperture.{swapOf, served, span, reachesMemory}
 use Rattle.chip.specs.Place.{placeOf}
 use Rattle.chip.specs.Port.{portAt}
-use Rattle.chip.specs.Refusal.{Line, line, firstOf, isWrite, portOf}
+use Rattle.chip.specs.Access.{isWrite}
+use Rattle.chip.specs.Refusal.{Line, line, firstOf, portOf}
 use Rattle.chip.specs.Trace.{World}
-use Rattle.chip.proofs.Refusals.{is-read, is-write, read-is, write-is}
+use Rattle.chip.proofs.Operations.{is-read, is-write, read-is, write-is}
 use Rattle.promises.specs.Reach.{reachAt}
 use Rattle.promises.specs.Places.{Leads, address, palette, indexed, region, one, two, header, blank}
 use Rattle.promises.specs.Refusals.{Lent, Asked, Found, Directed, Served}

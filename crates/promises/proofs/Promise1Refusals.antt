@@ -14,11 +14,13 @@ use Rattle.bits.proofs.Cases.{byTest}
 use Rattle.bits.proofs.Bools.{clash}
 use Rattle.chip.specs.declared.State.{State}
 use Rattle.chip.specs.declared.Access.{Access}
+use Rattle.chip.specs.declared.Kind.the-variants.{Write, Look}
 use Rattle.chip.specs.declared.Place.{Place}
 use Rattle.chip.specs.Place.{placeOf}
 use Rattle.chip.specs.State.{resetState}
 use Rattle.chip.specs.Sound.{panelOk, memoryOk, isState}
-use Rattle.chip.specs.Refusal.{line, firstOf, isWrite, portOf, laterLines, accessLines, statusOf, openingLines, openingStatus}
+use Rattle.chip.specs.Access.{isWrite, isLook}
+use Rattle.chip.specs.Refusal.{line, firstOf, portOf, laterLines, accessLines, statusOf, openingLines, openingStatus}
 use Rattle.chip.specs.Step.{Outcome, Opening, refused, settled, doneBy, givenBy, stepOf, blankWord, openOf}
 use Rattle.chip.specs.Trace.{World, opened, step}
 use Rattle.promises.specs.Good.{statusAt}
@@ -26,7 +28,7 @@ use Rattle.promises.specs.Reach.{reachAt}
 use Rattle.promises.specs.Places.{Leads}
 use Rattle.promises.specs.View.{Idle}
 use Rattle.promises.specs.Refusals.{IsState, Words, Passes, state, lent, asked, aligned, found, directed, served, Fails, Panel, Memory, OpeningHas}
-use Rattle.chip.proofs.Refusals.{is-write, write-is}
+use Rattle.chip.proofs.Operations.{is-write, write-is, is-look, look-is}
 use Rattle.promises.proofs.Passed.{lines, first-is, is-first, none-is, is-none, at-most, lent-test, asked-test, aligned-test, found-test, directed-test, served-test}
 use Rattle.promises.proofs.Places.{leads-place, place-leads}
 use Rattle.promises.proofs.Clauses.{panel-of, of-panel, memory-of, of-memory, clauses}
@@ -39,9 +41,12 @@ pub access-status : (x : World) (a : Access) → step x a .answer .status ≡ st
 unfolding stepOf givenBy doneBy settled refused
 access-status x a = byTest (eqb (statusAt x a) 0) (λ q. simp q (sym (eqb-true (statusAt x a) 0 q))) (λ q. simp q)
 
--- 0 is a read, anything else a write
-pub write-means : (a : Access) → (isWrite a ≡ true) ↔ (a .write ≡ 0 → ⊥)
+-- which of the three operations an access is: the tests of the definitions are of its kind alone
+pub write-means : (a : Access) → (isWrite a ≡ true) ↔ (a .kind ≡ Write)
 write-means a = (is-write a, write-is a)
+
+pub look-means : (a : Access) → (isLook a ≡ true) ↔ (a .kind ≡ Look)
+look-means a = (is-look a, look-is a)
 
 -- a place of the definitions, other than nowhere, is where 01 says that the access leads
 pub place-means : (s : State) (a : Access) (p : Place) → reachAt p .here ≡ true → (placeOf s a ≡ p) ↔ Leads s a p

@@ -16,7 +16,7 @@ use Rattle.bits.proofs.Bools.{and-false, and-true, or-false, every-at}
 use Rattle.chip.specs.declared.Access.{Access}
 use Rattle.chip.specs.Bank.{bankRow, subsystem}
 use Rattle.chip.specs.Palette.{entryCount, entryOf}
-use Rattle.chip.specs.Refusal.{isWrite}
+use Rattle.chip.specs.Access.{isWrite}
 use Rattle.chip.proofs.Computed.{computed}
 use Rattle.chip.specs.declared.Place.the-variants.{Register, Blank}
 use Rattle.chip.specs.Trace.{World, step, after, run}
@@ -53,8 +53,8 @@ never-cleared : (b : ℕ) → b < 32 → not (bit b (bankRow subsystem .clears))
 unfolding uncleared
 never-cleared b h = every-at uncleared 32 b uncleared-all h
 
--- what moves a bit, and what disturbs a load, in 01's words: an accepted write that leads to the register and reaches the bit; an accepted access with lane 0 that leads
--- to palette data, or sets an address. Nothing else does: no refused access, none without lane 0, no read of the address, no other register
+-- what moves a bit, and what disturbs a load, in 01's words: an accepted write that leads to the register and reaches the bit; an accepted read or write with lane 0 that
+-- leads to palette data, or a write that sets an address. Nothing else does: no refused access, no look, none without lane 0, no read of the address, no other register
 pub moves-mean : (x : World) (a : Access) (q : Spot) → (moves x a q ≡ true) ↔ Moves x a q
 moves-mean = moves-meant
 
@@ -153,7 +153,7 @@ without-lane-0 x a g k t f d l = idle x a k t f d l g
 pub sizes-stay : (x : World) (a : Access) → Sizes (x .state) (after x a .state)
 sizes-stay = sizes-kept
 
--- a read alters nothing but the palette's address, component and stage
+-- what is no write alters nothing but the palette's address, component and stage, and a look not even these (Promise9Looks)
 pub reads-leave : (x : World) (a : Access) → isWrite a ≡ false → LeavesRest x (after x a)
 reads-leave = read-leaves
 

@@ -1,4 +1,4 @@
--- Promise 4, the lanes of an aperture (01, Apertures, with 02, C-17): the rule is its own inverse, a read shows each byte in its lane, and gives back what a write by the same rule stored.
+-- Promise 4, the lanes of an aperture (01, Apertures, with 02, C-17): the rule is its own inverse, a read or a look shows each byte in its lane, and gives back what a write by the same rule stored.
 -- From the laws of the lanes (Pokes), what is told of a byte (Known) and WrittenBack. Assumes nothing.
 use Prim.Native.Nat.{ℕ, _+_, _*_, _/_, _%_, _≤_, _<_}
 use mathlib.Core.Bool.{Bool, true, false, _&&_}
@@ -19,10 +19,11 @@ use Rattle.chip.specs.declared.Bytes.{Bytes}
 use Rattle.chip.specs.declared.Place.the-variants.{Window}
 use Rattle.chip.specs.Aperture.{swapOf, laneOf, reach}
 use Rattle.chip.specs.Trace.{World, opened, step, after, run}
-use Rattle.chip.proofs.Refusals.{is-read, unrefused}
+use Rattle.chip.proofs.Refusals.{unrefused}
+use Rattle.chip.proofs.Operations.{is-read}
 use Rattle.promises.specs.Good.{Good, Openable}
 use Rattle.promises.specs.Places.{Leads}
-use Rattle.promises.specs.History.{AcceptedRead, shows}
+use Rattle.promises.specs.History.{Seeing, shows}
 use Rattle.promises.specs.Frame.{laneAt}
 use Rattle.promises.specs.Origin.{ByteStored}
 use Rattle.promises.specs.Told.{poked}
@@ -57,12 +58,12 @@ lane-inverse = at-back
 
 -- ---- accesses
 
--- no access through an aperture alters the state, on any world, read, written or refused
+-- no access through an aperture alters the state, on any world, be it a read, a write or a look, or refused
 pub windows-leave : (x : World) (a : Access) (i : ℕ) → Leads (x .state) a (Window i) → after x a .state ≡ x .state
 windows-leave x a i d = window-leaves x a i (leads-place (x .state) a (Window i) d)
 
--- on any good world a read shows byte o + n in its lane, where that is enabled
-pub byte-in-lane : (x : World) (a : Access) → AcceptedRead x a → Good x → (i : ℕ) → Leads (x .state) a (Window i) → (n b : ℕ) → n < 4 → b < 8
+-- on any good world a read or a look shows byte o + n in its lane, where that is enabled
+pub byte-in-lane : (x : World) (a : Access) → Seeing x a → Good x → (i : ℕ) → Leads (x .state) a (Window i) → (n b : ℕ) → n < 4 → b < 8
     → shows (step x a .answer) (8 * laneAt (getD (x .state .values) i 0) n + b)
     ≡ pick (bit (laneAt (getD (x .state .values) i 0) n) (a .enables)) (some (bit b (getD (x .memory) (a .offset + n) 0))) none
 byte-in-lane x a q g i d n b hn hb =
@@ -77,7 +78,7 @@ byte-in-lane x a q g i d n b hn hb =
     place : (8 * laneAt c n + b) % 8 ≡ b
     place = omega arith
 
--- .. and right after an accepted write a a read r with its target and offset, and with any enables from 0 to 15
+-- .. and right after an accepted write, which is a, a read or a look r with its target and offset, and with any enables from 0 to 15
 module _ (x : World) (a r : Access) (i : ℕ) (g : Good x) (w : WritesWindow x a i) (f : ReadsThere a r) (e : r .enables ≤ 15) where
   pub written-accepted : step (after x a) r .answer .status ≡ 0
   written-accepted = access-status (after x a) r ∙ read-there x a r i g w f e (after x a) (good-kept x a g) (windows-leave x a i (w .through)) .done
@@ -124,8 +125,8 @@ written-back x a r i g w f q = (written-accepted x a r i g w f e, answer .0, ans
 
 -- ---- after an opening and any list of accesses
 
--- an accepted read shows each of its lanes whose byte was last stored at its offset by its swap code as that write had the lane, through either aperture
-pub last-write-shown : (w h : ℕ) (m p : List ℕ) → Openable w h m p → (l : List Access) (a : Access) → AcceptedRead (run (opened w h m p) l) a
+-- an accepted read or look shows each of its lanes whose byte was last stored at its offset by its swap code as that write had the lane, through either aperture
+pub last-write-shown : (w h : ℕ) (m p : List ℕ) → Openable w h m p → (l : List Access) (a : Access) → Seeing (run (opened w h m p) l) a
     → (i : ℕ) → Leads (run (opened w h m p) l .state) a (Window i) → (b : ℕ) → b < 32 → bit (b / 8) (a .enables) ≡ true
     → (f : LaneWritten (opened w h m p) l a i (b / 8)) → shows (step (run (opened w h m p) l) a .answer) b ≡ some (bit b (f .by .word))
 last-write-shown w h m p o l a q i d b hb t f =

@@ -1,4 +1,4 @@
--- Promise 4, on any world at all: what an accepted read shows, bit by bit, at each place that it may lead to; it does not depend on the picture.
+-- Promise 4, on any world at all: what an accepted read or look shows, bit by bit, at each place that it may lead to; it does not depend on the picture.
 -- From the laws of Shown; a picture is looked at for its length alone. Assumes nothing.
 use Prim.Native.Nat.{ℕ, _+_, _/_, _%_, _<_}
 use mathlib.Core.Bool.{false}
@@ -22,13 +22,13 @@ use Rattle.chip.specs.Refusal.{statusOf}
 use Rattle.chip.specs.Trace.{World, step}
 use Rattle.promises.specs.Good.{Good}
 use Rattle.promises.specs.Places.{Leads}
-use Rattle.promises.specs.History.{AcceptedRead, seenBit, shows, partBit, spot, holds}
+use Rattle.promises.specs.History.{Seeing, seenBit, shows, partBit, spot, holds}
 use Rattle.promises.specs.Frame.{laneAt}
 use Rattle.promises.proofs.Options.{absurd-put}
 use Rattle.promises.proofs.Places.{leads-place}
 use Rattle.promises.proofs.Shown.{shows-register, shows-blank, shows-address, shows-palette, shows-memory}
 
-module _ (x : World) (a : Access) (b : ℕ) (q : AcceptedRead x a) (hb : b < 32) where
+module _ (x : World) (a : Access) (b : ℕ) (q : Seeing x a) (hb : b < 32) where
   -- a register, of region 0, of the header, or the indirect one that indexed data leads to: what it holds
   pub register-read : (r : ℕ) → Leads (x .state) a (Register r) → shows (step x a .answer) b ≡ pick (bit (b / 8) (a .enables)) (holds (x .state) (spot r b)) none
   register-read r d = shows-register x a b q hb r (leads-place (x .state) a (Register r) d)

@@ -1,4 +1,4 @@
--- Promise 4, the two widths of a palette component (01, RAMDAC, with 02, C-13): what is stored of a byte, and what a read gives back of it.
+-- Promise 4, the two widths of a palette component (01, RAMDAC, with 02, C-13): what is stored of a byte, and what a read or a look gives back of it.
 -- By the two widths and arithmetic, bit by bit over the 64 values of six bits at once; what a read answers, from ReadBack. Assumes nothing.
 use Prim.Native.Nat.{ℕ, _+_, _-_, _*_, _/_, _%_, _<_}
 use mathlib.Core.Bool.{Bool, true, false, Bool·beq}
@@ -71,9 +71,9 @@ module _ (s t : State) (v : ℕ) where
   unfolding storedByte
   eight-stores e = simp e
 
--- ---- a read
+-- ---- a read or a look
 
--- after an opening and any list of accesses, an accepted palette data read with lane 0 of an entry that the list loaded
+-- after an opening and any list of accesses, an accepted read or look of palette data, with lane 0, of an entry that the list loaded
 module _ (w h : ℕ) (m p : List ℕ) (o : Openable w h m p) (l : List Access) (a : Access) (f : ReadsPart (opened w h m p) l a) where
   abbrev x : World
   x = run (opened w h m p) l

@@ -1,4 +1,4 @@
--- Promise 5, demand 3 on the definitions. After an opening and any list of accesses, refused ones among them, the picture equals the picture drawn afresh, each
+-- Promise 5, demand 3 on the definitions. After an opening and any list of reads, writes and looks, refused ones among them, the picture equals the picture drawn afresh, each
 -- dot's word is the one of 01's rules, and each changed count is the number of dots that differ. From the laws of Pictures and Dots; a stored colour is of bytes
 -- because each was written as a byte. Assumes nothing.
 use Prim.Native.Nat.{ℕ, zero, suc, _+_, _*_, _<_}

@@ -32,7 +32,7 @@ use Rattle.chip.proofs.Refusals.{unrefused}
 use Rattle.chip.proofs.Lent.{lane-read}
 use Rattle.promises.specs.Good.{Good, statusAt}
 use Rattle.promises.specs.Frame.{laneAt}
-use Rattle.promises.specs.History.{AcceptedRead, seenBit, shows, partBit, spot, holds}
+use Rattle.promises.specs.History.{Seeing, seenBit, shows, partBit, spot, holds}
 use Rattle.promises.proofs.Widths.{shown-told}
 use Rattle.promises.proofs.Pokes.{lane-told}
 
@@ -48,11 +48,11 @@ found s ml pl a e = unrefused s ml pl a e .present
 abbrev pub sees : World → Access → Seen
 sees x a = portOf (x .state) a .seen (x .memory)
 
-pub answer-word : (x : World) (a : Access) → AcceptedRead x a → step x a .answer .word ≡ wordIn (sees x a) (a .enables)
+pub answer-word : (x : World) (a : Access) → Seeing x a → step x a .answer .word ≡ wordIn (sees x a) (a .enables)
 unfolding stepOf givenBy doneBy settled seenBy
 answer-word x a q = simp (eq-eqb (statusAt x a) 0 (q .done), q .read)
 
-pub answer-known : (x : World) (a : Access) → AcceptedRead x a → step x a .answer .known ≡ knownIn (sees x a) (a .enables)
+pub answer-known : (x : World) (a : Access) → Seeing x a → step x a .answer .known ≡ knownIn (sees x a) (a .enables)
 unfolding stepOf givenBy doneBy settled seenBy
 answer-known x a q = simp (eq-eqb (statusAt x a) 0 (q .done), q .read)
 
@@ -71,7 +71,7 @@ unfolding knownIn wordIn
 in-lanes s e b he hb =
     simp (bit-inside, lane-bit b e hb he) (seen-lane (bit b (s .known)) (bit b (s .value)) (bit (b / 8) e))
 
-pub read-shows : (x : World) (a : Access) (b : ℕ) → AcceptedRead x a → b < 32
+pub read-shows : (x : World) (a : Access) (b : ℕ) → Seeing x a → b < 32
     → shows (step x a .answer) b ≡ pick (bit (b / 8) (a .enables)) (seenBit (bit b (sees x a .known)) (bit b (sees x a .value))) none
 unfolding shows
 read-shows x a b q hb =
@@ -96,7 +96,7 @@ none-part : (b : ℕ) → seenBit (bit b 0) (bit b 0) ≡ none
 unfolding seenBit
 none-part b = simp (bit-of-zero b)
 
-module _ (x : World) (a : Access) (b : ℕ) (q : AcceptedRead x a) (hb : b < 32) where
+module _ (x : World) (a : Access) (b : ℕ) (q : Seeing x a) (hb : b < 32) where
   -- what a read shows at bit b, given what it sees there
   at-place : (p : Place) (o : Option Bool) → placeOf (x .state) a ≡ p
       → seenBit (bit b (portAt (x .state) a p .seen (x .memory) .known)) (bit b (portAt (x .state) a p .seen (x .memory) .value)) ≡ o

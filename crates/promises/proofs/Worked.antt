@@ -17,9 +17,9 @@ use Rattle.chip.specs.Step.{Outcome, stepOf, sureOf}
 use Rattle.chip.specs.Trace.{World, after, run}
 use Rattle.chip.specs.Case.{Case, start, lentOr, meets, agrees, holds, sureStep, sureRun, fits, surely}
 use Rattle.chip.specs.Values.{values}
-use Rattle.chip.specs.Readings.{misread, palettes, widths, refusals, words, lanes, pictures}
+use Rattle.chip.specs.Readings.{misread, palettes, widths, glances, refusals, words, lanes, pictures}
 use Rattle.chip.proofs.Computed.{computed}
-use Rattle.chip.proofs.Values.{values-computed, misread-computed, palettes-computed, widths-computed, refusals-computed, words-computed, lanes-computed, pictures-computed}
+use Rattle.chip.proofs.Values.{values-computed, misread-computed, palettes-computed, widths-computed, glances-computed, refusals-computed, words-computed, lanes-computed, pictures-computed}
 use Rattle.promises.specs.Good.{Good, Openable}
 use Rattle.promises.proofs.Promise1Refusals.{opening-status}
 use Rattle.promises.proofs.Worlds.{good-kept, good-along, opened-good}
@@ -89,6 +89,10 @@ palettes-hold = all-hold palettes refl palettes-computed
 pub widths-hold : everyIn holds widths ≡ true
 unfolding computed widths
 widths-hold = all-hold widths refl widths-computed
+
+pub glances-hold : everyIn holds glances ≡ true
+unfolding computed glances
+glances-hold = all-hold glances refl glances-computed
 
 pub refusals-hold : everyIn holds refusals ≡ true
 unfolding computed refusals

@@ -20,13 +20,14 @@ use Rattle.chip.specs.Aperture.{served, span, reachesMemory}
 use Rattle.chip.specs.Patch.{applied}
 use Rattle.chip.specs.Place.{placeAt, placeOf}
 use Rattle.chip.specs.Port.{pokePatch, portAt}
-use Rattle.chip.specs.Refusal.{isWrite, portOf}
+use Rattle.chip.specs.Access.{isWrite, isLook}
+use Rattle.chip.specs.Refusal.{portOf}
 use Rattle.chip.specs.Step.{patchOf}
 use Rattle.chip.specs.Trace.{World, step, after}
 use Rattle.chip.proofs.Refusals.{unrefused}
 use Rattle.promises.specs.Good.{Good, statusAt}
 use Rattle.promises.specs.Reach.{reachAt}
-use Rattle.promises.specs.History.{accepted, AcceptedRead, shows}
+use Rattle.promises.specs.History.{accepted, Seeing, shows}
 use Rattle.promises.specs.Frame.{laneAt, lanePut, windowPut, bytePut}
 use Rattle.promises.specs.Lanes.{WritesWindow, ReadsThere}
 use Rattle.promises.proofs.Patches.{patchAt}
@@ -37,11 +38,11 @@ use Rattle.promises.proofs.MemoryBytes.{byte-step}
 use Rattle.promises.proofs.Shown.{shows-memory}
 use Rattle.promises.proofs.Depends.{portStatus, good-status}
 
--- no access through an aperture alters the state, read, written or refused
+-- no access through an aperture alters the state, be it a read, a write or a look, or refused
 pub window-leaves : (x : World) (a : Access) (i : ℕ) → placeOf (x .state) a ≡ Window i → after x a .state ≡ x .state
 unfolding patchAt patchOf portOf portAt pokePatch applied
 window-leaves x a i e =
-    after-state x a ∙ byTest (accepted x a) (λ t. byTest (isWrite a) (λ w. simp (t, w, e)) (λ w. simp (t, w, e))) (λ t. simp t)
+    after-state x a ∙ byTest (accepted x a) (λ t. byTest (isWrite a) (λ w. simp (t, w, e)) (λ w. byTest (isLook a) (λ k. simp (t, w, k)) (λ k. simp (t, w, k, e)))) (λ t. simp t)
 
 -- a read through an aperture is accepted where its four bytes are fitted and the mode is served
 read-accepted : (x : World) (r : Access) (i : ℕ) → Good x → placeOf (x .state) r ≡ Window i → isWrite r ≡ false → r .target ≤ 3 → r .enables ≤ 15 → r .offset % 4 ≡ 0
@@ -73,7 +74,7 @@ module _ (x : World) (a r : Access) (i : ℕ) (g : Good x) (w : WritesWindow x a
   read-place : (s : State) → s ≡ x .state → placeOf s r ≡ Window i
   read-place s q = ap₂ (λ (t o : ℕ). placeAt (s .dac) t o) (f .target) (f .offset) ∙ ap (λ (n : State). placeOf n a) q ∙ there
 
-  pub read-there : (y : World) → Good y → y .state ≡ x .state → AcceptedRead y r
+  pub read-there : (y : World) → Good y → y .state ≡ x .state → Seeing y r
   read-there y h q =
       let u = unrefused (x .state) _ _ a (w .accepted) in
       record {

@@ -11,12 +11,13 @@ use Rattle.bits.specs.Bit.{bit}
 use Rattle.bits.specs.Word.{laneByte}
 use Rattle.chip.specs.declared.State.{State}
 use Rattle.chip.specs.declared.Access.{Access}
+use Rattle.chip.specs.declared.Kind.the-variants.{Write}
 use Rattle.chip.specs.declared.Place.the-variants.{Register}
 use Rattle.chip.specs.declared.Dac.{Dac}
 use Rattle.chip.specs.declared.Colour.{Colour}
 use Rattle.chip.specs.Bank.{bankRow, subsystem}
 use Rattle.chip.specs.Place.{placeOf}
-use Rattle.chip.specs.Refusal.{isWrite}
+use Rattle.chip.specs.Access.{isWrite}
 use Rattle.chip.specs.Trace.{World, after}
 use Rattle.promises.specs.Good.{statusAt}
 use Rattle.promises.specs.Places.{Leads}
@@ -50,7 +51,7 @@ moves x a q = writesRow x a (q .row) && bitMoves (x .state) a (q .row) (q .b)
 -- the same, line by line
 pub record Moves (x : World) (a : Access) (q : Spot) : Type 0 where
   pub accepted : statusAt x a ≡ 0
-  pub write : a .write ≡ 0 → ⊥
+  pub write : a .kind ≡ Write
   pub place : Leads (x .state) a (Register (q .row))
   pub reached : bitMoves (x .state) a (q .row) (q .b) ≡ true
 
@@ -87,7 +88,7 @@ pub record Aimed (d : Dac) (v : ℕ) : Type 0 where
   pub component : d .component ≡ 0
   pub staged : Unstaged d
 
--- after a palette data access: the component goes up by one; after 2 it becomes 0 and the address goes up by one, 255 to 0
+-- after a read or a write of palette data: the component goes up by one; after 2 it becomes 0 and the address goes up by one, 255 to 0
 pub record Advanced (d n : Dac) : Type 0 where
   pub component : n .component ≡ (d .component + 1) % 3
   pub address : n .address ≡ (d .address + (d .component + 1) / 3) % 256

@@ -1,6 +1,6 @@
 -- What an access, made at a world, puts where: the words in which a known bit's origin is told.
 use Prim.Native.Nat.{ℕ, _+_, _<_}
-use mathlib.Core.Bool.{Bool, false, _&&_}
+use mathlib.Core.Bool.{Bool, false, not, _&&_}
 use mathlib.Core.List.{List, [], _∷_}
 use mathlib.Core.Option.{Option, none, some}
 use mathlib.Core.Path.{_≡_}
@@ -15,7 +15,7 @@ use Rattle.chip.specs.declared.Answer.{Answer}
 use Rattle.chip.specs.declared.Colour.{Colour}
 use Rattle.chip.specs.Bank.{bankCount, bankRow}
 use Rattle.chip.specs.Place.{placeOf}
-use Rattle.chip.specs.Refusal.{isWrite}
+use Rattle.chip.specs.Access.{isWrite, isLook}
 use Rattle.chip.specs.Trace.{World, after}
 use Rattle.promises.specs.Good.{statusAt}
 use Rattle.promises.specs.Reach.{reachAt}
@@ -25,8 +25,8 @@ use Rattle.promises.specs.Width.{readByte, componentOf}
 unfoldable pub accepted : World → Access → Bool
 accepted x a = eqb (statusAt x a) 0
 
--- .. and is a read
-pub record AcceptedRead (x : World) (a : Access) : Type 0 where
+-- .. and is a read or a look, which see alike
+pub record Seeing (x : World) (a : Access) : Type 0 where
   pub read : isWrite a ≡ false
   pub done : statusAt x a ≡ 0
 
@@ -68,9 +68,9 @@ stated q = seenBit (bit (q .b) (bankRow (q .row) .known)) (bit (q .b) (bankRow (
 
 -- ---- the palette's address
 
--- an accepted access to palette data with lane 0, read or written
+-- an accepted access to palette data with lane 0, read or written; a look is neither
 unfoldable pub isData : World → Access → Bool
-isData x a = accepted x a && (reachAt (placeOf (x .state) a) .paints && bit 0 (a .enables))
+isData x a = accepted x a && (not (isLook a) && (reachAt (placeOf (x .state) a) .paints && bit 0 (a .enables)))
 
 -- an accepted write of the address with lane 0
 unfoldable pub isAim : World → Access → Bool
@@ -80,7 +80,7 @@ isAim x a = accepted x a && (isWrite a && (reachAt (placeOf (x .state) a) .aims 
 unfoldable pub aimPut : World → Access → Option ℕ
 aimPut x a = pick (isAim x a) (some (laneByte 0 (a .word))) none
 
--- how many accesses to palette data, read or written, a list has
+-- how many accepted reads and writes of palette data with lane 0 a list has
 abbrev pub dataSteps : World → List Access → ℕ
 dataSteps x [] = 0
 dataSteps x (a ∷ l) = pick (isData x a) 1 0 + dataSteps (after x a) l

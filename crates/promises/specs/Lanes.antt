@@ -8,7 +8,7 @@ use lib.ListN.{getD}
 use Rattle.bits.specs.Bit.{bit}
 use Rattle.chip.specs.declared.Access.{Access}
 use Rattle.chip.specs.declared.Place.the-variants.{Window}
-use Rattle.chip.specs.Refusal.{isWrite}
+use Rattle.chip.specs.Access.{isWrite}
 use Rattle.chip.specs.Trace.{World, after, run}
 use Rattle.promises.specs.Good.{statusAt}
 use Rattle.promises.specs.Places.{Leads}
@@ -21,13 +21,13 @@ pub record WritesWindow (x : World) (a : Access) (i : ℕ) : Type 0 where
   pub write : isWrite a ≡ true
   pub through : Leads (x .state) a (Window i)
 
--- r is a read with the target and the offset of a
+-- r is a read or a look with the target and the offset of a
 pub record ReadsThere (a r : Access) : Type 0 where
   pub read : isWrite r ≡ false
   pub target : r .target ≡ a .target
   pub offset : r .offset ≡ a .offset
 
--- of a read a, made after list l through the aperture whose control register is in row i: an accepted write of the list, through either aperture, had its offset, its swap code and lane j, and no access after
+-- of a read or a look a, made after list l through the aperture whose control register is in row i: an accepted write of the list, through either aperture, had its offset, its swap code and lane j, and no access after
 -- it stores the byte of that lane
 pub record LaneWritten (x : World) (l : List Access) (a : Access) (i j : ℕ) : Type 0 where
   pub before : List Access

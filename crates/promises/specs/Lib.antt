@@ -14,3 +14,4 @@ pub mod Places
 pub mod Told
 pub mod Lanes
 pub mod Refusals
+pub mod Looks

@@ -11,14 +11,15 @@ use Rattle.bits.specs.Word.{laneByte}
 use Rattle.chip.specs.declared.State.{State}
 use Rattle.chip.specs.declared.Access.{Access}
 use Rattle.chip.specs.declared.Colour.{Colour}
+use Rattle.chip.specs.declared.Kind.the-variants.{Write, Look}
 use Rattle.chip.specs.declared.Place.the-variants.{Address, PaletteData}
 use Rattle.chip.specs.Place.{placeOf}
-use Rattle.chip.specs.Refusal.{isWrite}
+use Rattle.chip.specs.Access.{isWrite}
 use Rattle.chip.specs.Trace.{World, after, run}
 use Rattle.promises.specs.Good.{statusAt}
 use Rattle.promises.specs.Places.{Leads}
 use Rattle.promises.specs.Width.{storedByte}
-use Rattle.promises.specs.History.{AcceptedRead, isData, isAim}
+use Rattle.promises.specs.History.{Seeing, isData, isAim}
 
 -- an accepted write, with lane 0, of component c of entry e, whose byte is stored as v by the width of that moment
 pub record WritesPart (x : World) (a : Access) (e c v : ℕ) : Type 0 where
@@ -31,7 +32,7 @@ pub record WritesPart (x : World) (a : Access) (e c v : ℕ) : Type 0 where
   pub value : v ≡ storedByte (x .state) (laneByte 0 (a .word))
 
 -- what disturbs a load between two of its writes: an accepted palette data access with lane 0, read or written, and an accepted setting of an address with lane 0.
--- Refused accesses, reading the address, accesses without lane 0 and other registers do not
+-- Refused accesses, looks, reading the address, accesses without lane 0 and other registers do not
 unfoldable pub disturbs : World → Access → Bool
 disturbs x a = isData x a || isAim x a
 
@@ -39,7 +40,7 @@ disturbs x a = isData x a || isAim x a
 pub record Disturbs (x : World) (a : Access) : Type 0 where
   pub accepted : statusAt x a ≡ 0
   pub lane : bit 0 (a .enables) ≡ true
-  pub by : Leads (x .state) a PaletteData ⊎ ((a .write ≡ 0 → ⊥) × Leads (x .state) a Address)
+  pub by : ((a .kind ≡ Look → ⊥) × Leads (x .state) a PaletteData) ⊎ ((a .kind ≡ Write) × Leads (x .state) a Address)
 
 -- no access of a list, made from x, does
 abbrev pub calm : World → List Access → Bool
@@ -75,9 +76,9 @@ pub record Loaded (x : World) (l : List Access) (e : ℕ) (c : Colour) : Type 0 
 
 -- ---- a component that is read back
 
--- a, made after list l, is an accepted palette data read with lane 0 of an entry that the list loaded
+-- a, made after list l, is an accepted palette data read or look, with lane 0, of an entry that the list loaded
 pub record ReadsPart (x : World) (l : List Access) (a : Access) : Type 0 where
-  pub read : AcceptedRead (run x l) a
+  pub read : Seeing (run x l) a
   pub place : Leads (run x l .state) a PaletteData
   pub lane : bit 0 (a .enables) ≡ true
   pub colour : Colour

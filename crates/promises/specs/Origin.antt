@@ -12,7 +12,7 @@ use Rattle.chip.specs.declared.Access.{Access}
 use Rattle.chip.specs.declared.Dac.{Dac}
 use Rattle.chip.specs.declared.Place.the-variants.{Address, Window}
 use Rattle.chip.specs.Place.{placeOf}
-use Rattle.chip.specs.Refusal.{isWrite}
+use Rattle.chip.specs.Access.{isWrite}
 use Rattle.chip.specs.Trace.{World, after, run}
 use Rattle.promises.specs.Good.{statusAt}
 use Rattle.promises.specs.Along.{lastPut}
@@ -74,7 +74,7 @@ pub record SetsAddress (x : World) (a : Access) (v : ℕ) : Type 0 where
   pub lane : bit 0 (a .enables) ≡ true
   pub value : v ≡ laneByte 0 (a .word)
 
--- address v was set by an access of the list, and none after it set one; n accesses to palette data came since
+-- address v was set by an access of the list, and none after it set one; n accepted reads and writes of palette data with lane 0 came since
 pub record AddressSet (x : World) (l : List Access) (v n : ℕ) : Type 0 where
   pub before : List Access
   pub by : Access

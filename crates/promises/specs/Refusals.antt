@@ -1,4 +1,4 @@
--- The refusals in 01's words: what each line of its table asks (01, An access and its answer; docs/DECISIONS.md, D-22, D-26, D-27 and D-29).
+-- The refusals in 01's words: what each line of its table asks (01, An access and its answer; docs/DECISIONS.md, D-22, D-27, D-29 and D-42).
 use Prim.Native.Nat.{ℕ, _+_, _*_, _/_, _%_, _^_, _≤_, _<_}
 use mathlib.Core.Bool.{Bool, true, false, _||_}
 use mathlib.Core.Logic.{_↔_, _⊎_}
@@ -10,6 +10,7 @@ use Rattle.bits.specs.Bit.{bit}
 use Rattle.chip.specs.declared.State.{State}
 use Rattle.chip.specs.declared.Access.{Access}
 use Rattle.chip.specs.declared.Palette.{Palette}
+use Rattle.chip.specs.declared.Kind.the-variants.{Write}
 use Rattle.chip.specs.declared.Place.{Place}
 use Rattle.chip.specs.declared.Place.the-variants.{Register, Window}
 use Rattle.chip.specs.Bank.{bankCount, bankRow, subsystem}
@@ -91,10 +92,10 @@ pub record Found (s : State) (a : Access) : Type 0 where
   pub leads : Leads s a place
   pub fitted : (i : ℕ) → place ≡ Window i → a .offset + 3 < s .fitted
 
--- 6: a register is read, or written, as the access asks: 0 is a read, anything else a write
+-- 6: a register is read, or written, as the access asks; a look asks as a read does (02, C-12)
 pub record Directed (s : State) (a : Access) : Type 0 where
-  pub reads : (i : ℕ) → Leads s a (Register i) → a .write ≡ 0 → bankRow i .reads ≡ true
-  pub writes : (i : ℕ) → Leads s a (Register i) → (a .write ≡ 0 → ⊥) → bankRow i .writes ≡ true
+  pub reads : (i : ℕ) → Leads s a (Register i) → (a .kind ≡ Write → ⊥) → bankRow i .reads ≡ true
+  pub writes : (i : ℕ) → Leads s a (Register i) → a .kind ≡ Write → bankRow i .writes ≡ true
 
 -- 7: the aperture's control register has no swap code 3 (bits 0 and 1), packed 16-bit mode (3), SVGA access (8) or ROM access (9)
 pub record Served (control : ℕ) : Type 0 where

@@ -1,4 +1,4 @@
--- What a picture and an access depend on, what a read leaves, and an access that does nothing.
+-- What a picture and an access depend on, what a read or a look leaves, and an access that does nothing.
 use Prim.Native.Nat.{ℕ, _%_}
 use mathlib.Core.Path.{_≡_}
 use lib.ListN.{getD}
@@ -36,7 +36,7 @@ pub record StepsOnly (s n : State) : Type 0 where
   pub knowns : n .knowns ≡ s .knowns
   pub palette : n .palette ≡ s .palette
 
--- a read leaves all but these
+-- a read leaves all but the palette's address, component and stage; a look leaves those too (Promise9Looks)
 pub record LeavesRest (x y : World) : Type 0 where
   pub state : StepsOnly (x .state) (y .state)
   pub memory : y .memory ≡ x .memory

@@ -1,6 +1,5 @@
 // speed [counts]: how long 100,000 writes through an aperture take on a panel of 4 by 1 and on one of 1,024 by 1,024. Each write changes four
 // dots in both. With the word `counts` it leaves out the times, which vary, so that what it writes can be compared.
-use chip::Access;
 use chip::State;
 use console::clock::microseconds;
 use console::complain::complain;
@@ -11,18 +10,8 @@ use console::program::is_argument;
 use console::say::say;
 use console::say::say_number;
 
-fn write(target: u32, offset: u32, word: u32) -> Access {
-    Access {
-        target,
-        offset,
-        write: 1,
-        enables: 15,
-        word,
-    }
-}
-
 fn put(s: State, offset: u32, word: u32, memory: &mut [u8], picture: &mut [u32]) -> State {
-    let r = model::access::access(s, write(0, offset, word), memory, picture);
+    let r = model::write::write(s, 0, offset, 15, word, memory, picture);
     let t = r.state;
     t
 }
@@ -76,13 +65,17 @@ fn shown(width: u32, height: u32, stride: u32, memory: &mut [u8], picture: &mut 
     placed(a, stride, memory, picture)
 }
 
-// Write number i: four equal bytes, other than those of the write before and never zero, at offset 0 or, with a step, at 4 times i.
-fn nth(i: u32, step: u32) -> Access {
-    let word = (i % 255 + 1) * 0x01010101;
+// Write number i: four equal bytes, other than those of the write before and never zero ..
+fn word_of(i: u32) -> u32 {
+    (i % 255 + 1) * 0x01010101
+}
+
+// .. at offset 0 or, with a step, at 4 times i.
+fn offset_of(i: u32, step: u32) -> u32 {
     if step == 0 {
-        return write(1, 0, word);
+        return 0;
     }
-    write(1, i % 100000 * 4, word)
+    i % 100000 * 4
 }
 
 // 100,000 writes; how many dots changed in all.
@@ -91,7 +84,7 @@ fn writes(s: State, step: u32, memory: &mut [u8], picture: &mut [u32]) -> u32 {
     let mut dots: u32 = 0;
     let mut i: u32 = 0;
     while i < 100000 {
-        let r = model::access::access(t, nth(i, step), memory, picture);
+        let r = model::write::write(t, 1, offset_of(i, step), 15, word_of(i), memory, picture);
         let u = r.state;
         t = u;
         dots = std::num::wrapping_add_u32(dots, r.changed);

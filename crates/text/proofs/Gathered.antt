@@ -1,6 +1,7 @@
 -- A line gathered chunk by chunk is the line, wherever the chunks part it: after each chunk the buffer holds the line's first bytes.
 -- And a buffer of 65 bytes is enough: what it holds of a line asks for what the line asks for. By the copy's laws. Assumes nothing.
 use Prim.Native.Nat.{ℕ, _+_, _-_, _<_, _≤_, min}
+use mathlib.Core.Bool.{Bool}
 use mathlib.Core.List.{List, [], _++_}
 use mathlib.Core.Path.{_≡_, refl, sym, ap, _∙_}
 use native.Mathlib.Nat.{min-eq-left, min-eq-right, min-le-left, min-le-right}
@@ -78,16 +79,16 @@ module _ {chunk : List ℕ} {from : ℕ} {l : List ℕ} {held : ℕ} {r : Taken}
       (λ t. room (leb-true (length line) (length l) t))
       (λ t. full (leb-false (length line) (length l) t))
 
-pub asks-the-same : (buffer : List ℕ) (held : ℕ) (line : List ℕ) → length buffer ≡ 65 → Holds buffer held line
-    → lineOf (take held buffer) ≡ lineOf line
-asks-the-same buffer held line e h =
+pub asks-the-same : (buffer : List ℕ) (held : ℕ) (line : List ℕ) (looks : Bool) → length buffer ≡ 65 → Holds buffer held line
+    → lineOf looks (take held buffer) ≡ lineOf looks line
+asks-the-same buffer held line looks e h =
     byTest (leb (length line) 64)
     (λ t.
     let s = leb-true (length line) 64 t in
     let k : held ≡ length line = h .count ∙ min-eq-left (omega arith) in
-    ap lineOf (h .same ∙ take-all held line (omega arith)))
+    ap (lineOf looks) (h .same ∙ take-all held line (omega arith)))
     (λ t.
     let s = leb-false (length line) 64 t in
     let k : held ≡ 65 = h .count ∙ min-eq-right (omega arith) ∙ e in
     let n : length (take held buffer) ≡ held = length-take-le held buffer (omega arith) in
-    sym (line-long (take held buffer) (omega arith)) ∙ line-long line (omega arith))
+    sym (line-long (take held buffer) looks (omega arith)) ∙ line-long line looks (omega arith))

@@ -1,6 +1,7 @@
 pub mod FieldLaws
 pub mod NumberLaws
 pub mod LineLaws
+pub mod LookLines
 pub mod WroteLaws
 pub mod GatherLaws
 pub mod Gathered

@@ -1,7 +1,7 @@
 -- What a line asks for, field by field: the reader's tests against the definition.
 -- By the fields of a line (FieldLaws) and by cases on what each test gave. Assumes nothing.
 use Prim.Native.Nat.{ℕ, suc, _+_, _-_, _<_, _≤_}
-use mathlib.Core.Bool.{true, false}
+use mathlib.Core.Bool.{Bool, true, false, _&&_}
 use mathlib.Core.List.{List, [], _∷_}
 use mathlib.Core.Path.{_≡_, refl, sym, ap, subst, _∙_}
 use native.Mathlib.Omega.{arith}
@@ -10,12 +10,14 @@ use lib.Dec.{eqb, ltb}
 use lib.ListN.{length, getD, take, drop, length-drop}
 use lib.Seq.{length-take-le, take-all, take-suc}
 use Rattle.bits.specs.Choose.{pick}
-use Rattle.bits.proofs.Cases.{byTest}
+use Rattle.bits.proofs.Cases.{byTest, pick-by}
+use Rattle.chip.specs.declared.Kind.{Kind}
+use Rattle.chip.specs.Access.{writing}
 use Rattle.text.specs.declared.Asked.{Asked}
 use Rattle.text.specs.declared.Asked.the-variants.{Bad, For}
 use Rattle.text.specs.declared.Field.{Field}
 use Rattle.text.specs.Gather.{upTo}
-use Rattle.text.specs.Line.{digitOf, isNumber, spelled, numberOf, isByte, targetIn, fieldsOf, longer, wordNext, enablesNext, offsetNext, targetNext, kindFirst, lineOf}
+use Rattle.text.specs.Line.{digitOf, isNumber, spelled, numberOf, targetIn, fieldsOf, longer, wordNext, enablesNext, offsetNext, targetNext, kindNext, kindFirst, lineOf}
 use Rattle.text.proofs.FieldLaws.{upTo-le, upTo-take, fields-none, fields-hit, fields-miss, fields-last, fields-more}
 
 -- ---- parts of a line
@@ -84,13 +86,13 @@ first-field l e q = ap (λ (k : ℕ). take k l) q ∙ upTo-take 32 l
 
 -- ---- the word
 
-module _ (l : List ℕ) (w t o e : ℕ) where
-  pub word-of-read : w ≡ 0 → Bad ≡ wordNext w t o e (fieldsOf l)
+module _ (l : List ℕ) (w : Kind) (t o e : ℕ) where
+  pub word-of-read : writing w ≡ false → Bad ≡ wordNext w t o e (fieldsOf l)
   unfolding wordNext
   word-of-read z = fields-some (λ (k : List (List ℕ)). Bad ≡ wordNext w t o e k) none l
     where
       none : (f : List ℕ) (fs : List (List ℕ)) → Bad ≡ wordNext w t o e (f ∷ fs)
-      none f [] = simp (eq-eqb w 0 z)
+      none f [] = simp z
       none f (x ∷ fs) = refl
 
   pub word-more : (d : ℕ) → d ≡ length (upTo 32 l) → (d ≡ length l → ⊥) → Bad ≡ wordNext w t o e (fieldsOf l)
@@ -102,24 +104,24 @@ module _ (l : List ℕ) (w t o e : ℕ) where
       many : (f : List ℕ) (fs : List (List ℕ)) → Bad ≡ wordNext w t o e (upTo 32 l ∷ f ∷ fs)
       many f fs = refl
 
-  module _ (d : ℕ) (q : d ≡ length (upTo 32 l)) (h : d ≡ length l) (z : w ≡ 0 → ⊥) (n : Field) (u : n ≡ numberOf 16 l) where
+  module _ (d : ℕ) (q : d ≡ length (upTo 32 l)) (h : d ≡ length l) (z : writing w ≡ true) (n : Field) (u : n ≡ numberOf 16 l) where
     pub word-bad : n .good ≡ false → Bad ≡ wordNext w t o e (fieldsOf l)
     unfolding wordNext
     word-bad g =
         subst (λ (k : List (List ℕ)). Bad ≡ wordNext w t o e k) (sym (fields-last l (sym q ∙ h)))
-        (simp (ne-eqb w 0 z, sym (good-is n l u) ∙ g))
+        (simp (z, sym (good-is n l u) ∙ g))
 
     pub word-good : n .good ≡ true
-        → For (record { target = t; offset = o; write = 1; enables = e; word = n .value }) ≡ wordNext w t o e (fieldsOf l)
+        → For (record { target = t; offset = o; kind = w; enables = e; word = n .value }) ≡ wordNext w t o e (fieldsOf l)
     unfolding wordNext
     word-good g =
-        subst (λ (k : List (List ℕ)). For (record { target = t; offset = o; write = 1; enables = e; word = n .value }) ≡ wordNext w t o e k)
+        subst (λ (k : List (List ℕ)). For (record { target = t; offset = o; kind = w; enables = e; word = n .value }) ≡ wordNext w t o e k)
         (sym (fields-last l (sym q ∙ h)))
-        (simp (ne-eqb w 0 z, sym (good-is n l u) ∙ g, value-is n l u g))
+        (simp (z, sym (good-is n l u) ∙ g, value-is n l u g))
 
 -- ---- enables and offset
 
-module _ (l : List ℕ) (w t o : ℕ) (d : ℕ) (q : d ≡ length (upTo 32 l)) (n : Field) (u : n ≡ numberOf 16 (take d l)) where
+module _ (l : List ℕ) (w : Kind) (t o : ℕ) (d : ℕ) (q : d ≡ length (upTo 32 l)) (n : Field) (u : n ≡ numberOf 16 (take d l)) where
   there : n ≡ numberOf 16 (upTo 32 l)
   there = u ∙ ap (numberOf 16) (first-field l d q)
 
@@ -161,14 +163,14 @@ module _ (l : List ℕ) (w t o : ℕ) (d : ℕ) (q : d ≡ length (upTo 32 l)) (
       subst (λ (k : List (List ℕ)). r ≡ offsetNext w t k) (sym (fields-split l d q h))
       (simp (sym (good-is n (upTo 32 l) there) ∙ g, p, value-is n (upTo 32 l) there g))
 
-pub offset-last : (l : List ℕ) (w t d : ℕ) → d ≡ length (upTo 32 l) → d ≡ length l → Bad ≡ offsetNext w t (fieldsOf l)
+pub offset-last : (l : List ℕ) (w : Kind) (t d : ℕ) → d ≡ length (upTo 32 l) → d ≡ length l → Bad ≡ offsetNext w t (fieldsOf l)
 unfolding offsetNext enablesNext
 offset-last l w t d q h = subst (λ (k : List (List ℕ)). Bad ≡ offsetNext w t k) (sym (fields-last l (sym q ∙ h))) alone
   where
     alone : Bad ≡ offsetNext w t (l ∷ [])
     alone = byTest (isNumber 16 l) (λ e. simp e) (λ e. simp e)
 
--- ---- one byte: the target, and r or w
+-- ---- one byte: the target, and r, w or l
 
 one-byte : (l : List ℕ) → length (upTo 32 l) ≡ 1 → upTo 32 l ≡ getD l 0 0 ∷ []
 one-byte l e =
@@ -181,27 +183,23 @@ target-long [] n = refl
 target-long (c ∷ []) n = absurd (n refl)
 target-long (c ∷ d ∷ f) n = refl
 
-byte-long : (b : ℕ) (f : List ℕ) → (length f ≡ 1 → ⊥) → isByte b f ≡ false
-unfolding isByte
-byte-long b [] n = refl
-byte-long b (c ∷ []) n = absurd (n refl)
-byte-long b (c ∷ d ∷ f) n = refl
+kind-long : (k : Bool) (f : List ℕ) (fs : List (List ℕ)) → (length f ≡ 1 → ⊥) → Bad ≡ kindFirst k (f ∷ fs)
+unfolding kindFirst
+kind-long k [] fs n = refl
+kind-long k (c ∷ []) fs n = absurd (n refl)
+kind-long k (c ∷ d ∷ f) fs n = refl
 
--- a line whose first field is no target, or neither kind
-no-target : (l : List ℕ) (w : ℕ) → targetIn (upTo 32 l) ≡ 10 → Bad ≡ targetNext w (fieldsOf l)
+-- a line whose first field is no target
+no-target : (l : List ℕ) (w : Kind) → targetIn (upTo 32 l) ≡ 10 → Bad ≡ targetNext w (fieldsOf l)
 unfolding targetNext
 no-target l w e = fields-front (λ (k : List (List ℕ)). Bad ≡ targetNext w k) l (λ fs. simp e)
 
-no-kind : (l : List ℕ) → isByte 114 (upTo 32 l) ≡ false → isByte 119 (upTo 32 l) ≡ false → Bad ≡ kindFirst (fieldsOf l)
-unfolding kindFirst
-no-kind l e f = fields-front (λ (k : List (List ℕ)). Bad ≡ kindFirst k) l (λ fs. simp (e, f))
-
 module _ (l : List ℕ) (d : ℕ) (q : d ≡ length (upTo 32 l)) where
-  pub target-none : (w : ℕ) → (d ≡ 1 → ⊥) → Bad ≡ targetNext w (fieldsOf l)
+  pub target-none : (w : Kind) → (d ≡ 1 → ⊥) → Bad ≡ targetNext w (fieldsOf l)
   target-none w n = no-target l w (target-long (upTo 32 l) (λ e. n (q ∙ e)))
 
-  pub kind-none : (d ≡ 1 → ⊥) → Bad ≡ kindFirst (fieldsOf l)
-  kind-none n = no-kind l (byte-long 114 (upTo 32 l) (λ e. n (q ∙ e))) (byte-long 119 (upTo 32 l) (λ e. n (q ∙ e)))
+  pub kind-none : (k : Bool) → (d ≡ 1 → ⊥) → Bad ≡ kindFirst k (fieldsOf l)
+  kind-none k n = fields-front (λ (fs : List (List ℕ)). Bad ≡ kindFirst k fs) l (λ fs. kind-long k (upTo 32 l) fs (λ e. n (q ∙ e)))
 
   module _ (o : d ≡ 1) where
     single : upTo 32 l ≡ getD l 0 0 ∷ []
@@ -211,11 +209,11 @@ module _ (l : List ℕ) (d : ℕ) (q : d ≡ length (upTo 32 l)) where
     unfolding targetIn
     target-is = ap targetIn single
 
-    pub target-bad : (w v : ℕ) → v ≡ digitOf (getD l 0 0) → 9 < v → Bad ≡ targetNext w (fieldsOf l)
+    pub target-bad : (w : Kind) (v : ℕ) → v ≡ digitOf (getD l 0 0) → 9 < v → Bad ≡ targetNext w (fieldsOf l)
     target-bad w v u h =
         no-target l w (target-is ∙ simp (le-ltb (digitOf (getD l 0 0)) 10 (subst (λ (k : ℕ). 10 ≤ k) u (omega arith))))
 
-    pub target-last : (w : ℕ) → length l ≡ 1 → Bad ≡ targetNext w (fieldsOf l)
+    pub target-last : (w : Kind) → length l ≡ 1 → Bad ≡ targetNext w (fieldsOf l)
     unfolding targetNext offsetNext
     target-last w h = subst (λ (k : List (List ℕ)). Bad ≡ targetNext w k) (sym (fields-last l (sym q ∙ o ∙ sym h))) alone
       where
@@ -227,7 +225,7 @@ module _ (l : List ℕ) (d : ℕ) (q : d ≡ length (upTo 32 l)) where
         let k : d + 1 ≡ 2 = omega arith in
         fields-split l d q (λ e. n (sym e ∙ o)) ∙ ap (λ (j : ℕ). upTo 32 l ∷ fieldsOf (take (length l - j) (drop j l))) k
 
-    pub target-more : (w v : ℕ) → v ≡ digitOf (getD l 0 0) → v ≤ 9 → (length l ≡ 1 → ⊥) → (r : Asked)
+    pub target-more : (w : Kind) (v : ℕ) → v ≡ digitOf (getD l 0 0) → v ≤ 9 → (length l ≡ 1 → ⊥) → (r : Asked)
         → r ≡ offsetNext w v (fieldsOf (take (length l - 2) (drop 2 l))) → r ≡ targetNext w (fieldsOf l)
     unfolding targetNext
     target-more w v u h n r p =
@@ -236,39 +234,32 @@ module _ (l : List ℕ) (d : ℕ) (q : d ≡ length (upTo 32 l)) where
         digit : targetIn (upTo 32 l) ≡ v
         digit = target-is ∙ (simp (lt-ltb (digitOf (getD l 0 0)) 10 (subst (λ (k : ℕ). k < 10) u (omega arith)))) ∙ sym u
 
-    pub kind-last : length l ≡ 1 → Bad ≡ kindFirst (fieldsOf l)
-    unfolding kindFirst targetNext
-    kind-last h = subst (λ (k : List (List ℕ)). Bad ≡ kindFirst k) (sym (fields-last l (sym q ∙ o ∙ sym h))) alone
+    kind-one : (k : Bool) (fs : List (List ℕ)) → kindFirst k (upTo 32 l ∷ fs) ≡ kindNext k (getD l 0 0) fs
+    unfolding kindFirst
+    kind-one k fs = ap (λ (f : List ℕ). kindFirst k (f ∷ fs)) single
+
+    pub kind-last : (k : Bool) → length l ≡ 1 → Bad ≡ kindFirst k (fieldsOf l)
+    unfolding kindNext targetNext
+    kind-last k h =
+        subst (λ (fs : List (List ℕ)). Bad ≡ kindFirst k fs) (sym (fields-last l (sym q ∙ o ∙ sym h) ∙ ap (λ (f : List ℕ). f ∷ []) (sym whole)))
+        (pick-by (λ (r : Asked). Bad ≡ r) (eqb (getD l 0 0) 114) Bad _ refl
+        (pick-by (λ (r : Asked). Bad ≡ r) (eqb (getD l 0 0) 119) Bad _ refl
+        (pick-by (λ (r : Asked). Bad ≡ r) (k && eqb (getD l 0 0) 108) Bad Bad refl refl))
+        ∙ sym (kind-one k []))
       where
-        alone : Bad ≡ kindFirst (l ∷ [])
-        alone = byTest (isByte 114 l) (λ e. simp e) (λ e. byTest (isByte 119 l) (λ f. simp (e, f)) (λ f. simp (e, f)))
+        whole : upTo 32 l ≡ l
+        whole = sym (upTo-take 32 l) ∙ take-all (length (upTo 32 l)) l (omega arith)
 
-    kind-is : (b : ℕ) → isByte b (upTo 32 l) ≡ eqb (getD l 0 0) b
-    unfolding isByte
-    kind-is b = ap (isByte b) single
-
-    pub kind-read : getD l 0 0 ≡ 114 → (length l ≡ 1 → ⊥) → (r : Asked) → r ≡ targetNext 0 (fieldsOf (take (length l - 2) (drop 2 l)))
-        → r ≡ kindFirst (fieldsOf l)
-    unfolding kindFirst
-    kind-read c n r p =
-        subst (λ (k : List (List ℕ)). r ≡ kindFirst k) (sym (more n)) (simp (kind-is 114 ∙ eq-eqb (getD l 0 0) 114 c, p))
-
-    pub kind-write : (getD l 0 0 ≡ 114 → ⊥) → getD l 0 0 ≡ 119 → (length l ≡ 1 → ⊥) → (r : Asked)
-        → r ≡ targetNext 1 (fieldsOf (take (length l - 2) (drop 2 l))) → r ≡ kindFirst (fieldsOf l)
-    unfolding kindFirst
-    kind-write a c n r p =
-        subst (λ (k : List (List ℕ)). r ≡ kindFirst k) (sym (more n))
-        (simp (kind-is 114 ∙ ne-eqb (getD l 0 0) 114 a, kind-is 119 ∙ eq-eqb (getD l 0 0) 119 c, p))
-
-    pub kind-other : (getD l 0 0 ≡ 114 → ⊥) → (getD l 0 0 ≡ 119 → ⊥) → Bad ≡ kindFirst (fieldsOf l)
-    kind-other a c = no-kind l (kind-is 114 ∙ ne-eqb (getD l 0 0) 114 a) (kind-is 119 ∙ ne-eqb (getD l 0 0) 119 c)
+    pub kind-more : (k : Bool) → (length l ≡ 1 → ⊥) → (r : Asked) → r ≡ kindNext k (getD l 0 0) (fieldsOf (take (length l - 2) (drop 2 l)))
+        → r ≡ kindFirst k (fieldsOf l)
+    kind-more k n r p = subst (λ (fs : List (List ℕ)). r ≡ kindFirst k fs) (sym (more n)) (p ∙ sym (kind-one k _))
 
 -- ---- the length
 
-pub line-long : (l : List ℕ) → 64 < length l → Bad ≡ lineOf l
+pub line-long : (l : List ℕ) (k : Bool) → 64 < length l → Bad ≡ lineOf k l
 unfolding lineOf
-line-long l h = simp (lt-ltb 64 (length l) h)
+line-long l k h = simp (lt-ltb 64 (length l) h)
 
-pub line-short : (l : List ℕ) → length l ≤ 64 → (r : Asked) → r ≡ kindFirst (fieldsOf l) → r ≡ lineOf l
+pub line-short : (l : List ℕ) (k : Bool) → length l ≤ 64 → (r : Asked) → r ≡ kindFirst k (fieldsOf l) → r ≡ lineOf k l
 unfolding lineOf
-line-short l h r p = simp (le-ltb 64 (length l) h, p)
+line-short l k h r p = simp (le-ltb 64 (length l) h, p)

@@ -1,10 +1,13 @@
--- What a line of a trace asks for (01, Values to check; docs/DECISIONS.md, D-30). A line is given without its newline.
+-- What a line of a trace, or of explain, asks for (01, Values to check; docs/DECISIONS.md, D-30, D-42). A line is given without its newline.
 use Prim.Native.Nat.{ℕ, _+_, _-_, _*_}
 use mathlib.Core.Bool.{Bool, false, _&&_}
 use mathlib.Core.List.{List, [], _∷_}
 use lib.Dec.{eqb, ltb, leb}
 use lib.ListN.{length}
 use Rattle.bits.specs.Choose.{pick, everyIn}
+use Rattle.chip.specs.declared.Kind.{Kind}
+use Rattle.chip.specs.declared.Kind.the-variants.{Read, Write, Look}
+use Rattle.chip.specs.Access.{writing}
 use Rattle.text.specs.declared.Asked.{Asked}
 use Rattle.text.specs.declared.Asked.the-variants.{Bad, For}
 use Rattle.text.specs.declared.Field.{Field}
@@ -33,12 +36,6 @@ spelled base v (c ∷ f) = spelled base (v * base + digitOf c) f
 unfoldable pub numberOf : ℕ → List ℕ → Field
 numberOf base f = record { good = isNumber base f; value = pick (isNumber base f) (spelled base 0 f) 0 }
 
--- a field that is this one byte
-unfoldable pub isByte : ℕ → List ℕ → Bool
-isByte b [] = false
-isByte b (c ∷ []) = eqb c b
-isByte b (c ∷ d ∷ f) = false
-
 -- the target: one decimal digit; 10 for any other field
 unfoldable pub targetIn : List ℕ → ℕ
 targetIn [] = 10
@@ -57,32 +54,42 @@ unfoldable pub fieldsOf : List ℕ → List (List ℕ)
 fieldsOf [] = [] ∷ []
 fieldsOf (c ∷ l) = pick (eqb c 32) ([] ∷ fieldsOf l) (longer c (fieldsOf l))
 
--- ---- the fields in turn: r (114) or w (119), target, offset, enables, for w a word, and nothing more
+-- ---- the fields in turn: r (114), w (119) or, where looks are asked for, l (108); target, offset, enables, for w a word, and nothing more
 
--- nothing behind the enables is a read, whose word nobody looks at and is 0; one field more is a write's word
-unfoldable pub wordNext : ℕ → ℕ → ℕ → ℕ → List (List ℕ) → Asked
-wordNext write t o e [] = pick (eqb write 0) (For (record { target = t; offset = o; write = 0; enables = e; word = 0 })) Bad
-wordNext write t o e (v ∷ []) =
-    pick (eqb write 0) Bad
-    (pick (isNumber 16 v) (For (record { target = t; offset = o; write = 1; enables = e; word = spelled 16 0 v })) Bad)
-wordNext write t o e (v ∷ x ∷ fs) = Bad
+-- nothing behind the enables is a read or a look, whose word nobody asks for and is 0; one field more is a write's word
+unfoldable pub wordNext : Kind → ℕ → ℕ → ℕ → List (List ℕ) → Asked
+wordNext k t o e [] =
+    pick (writing k) Bad (For (record { target = t; offset = o; kind = k; enables = e; word = 0 }))
+wordNext k t o e (v ∷ []) =
+    pick (writing k)
+    (pick (isNumber 16 v) (For (record { target = t; offset = o; kind = k; enables = e; word = spelled 16 0 v })) Bad) Bad
+wordNext k t o e (v ∷ x ∷ fs) = Bad
 
-unfoldable pub enablesNext : ℕ → ℕ → ℕ → List (List ℕ) → Asked
-enablesNext write t o [] = Bad
-enablesNext write t o (e ∷ fs) = pick (isNumber 16 e) (wordNext write t o (spelled 16 0 e) fs) Bad
+unfoldable pub enablesNext : Kind → ℕ → ℕ → List (List ℕ) → Asked
+enablesNext k t o [] = Bad
+enablesNext k t o (e ∷ fs) = pick (isNumber 16 e) (wordNext k t o (spelled 16 0 e) fs) Bad
 
-unfoldable pub offsetNext : ℕ → ℕ → List (List ℕ) → Asked
-offsetNext write t [] = Bad
-offsetNext write t (o ∷ fs) = pick (isNumber 16 o) (enablesNext write t (spelled 16 0 o) fs) Bad
+unfoldable pub offsetNext : Kind → ℕ → List (List ℕ) → Asked
+offsetNext k t [] = Bad
+offsetNext k t (o ∷ fs) = pick (isNumber 16 o) (enablesNext k t (spelled 16 0 o) fs) Bad
 
-unfoldable pub targetNext : ℕ → List (List ℕ) → Asked
-targetNext write [] = Bad
-targetNext write (t ∷ fs) = pick (ltb (targetIn t) 10) (offsetNext write (targetIn t) fs) Bad
+unfoldable pub targetNext : Kind → List (List ℕ) → Asked
+targetNext k [] = Bad
+targetNext k (t ∷ fs) = pick (ltb (targetIn t) 10) (offsetNext k (targetIn t) fs) Bad
 
-unfoldable pub kindFirst : List (List ℕ) → Asked
-kindFirst [] = Bad
-kindFirst (k ∷ fs) = pick (isByte 114 k) (targetNext 0 fs) (pick (isByte 119 k) (targetNext 1 fs) Bad)
+-- the first field is one byte
+unfoldable pub kindNext : Bool → ℕ → List (List ℕ) → Asked
+kindNext looks c fs =
+    pick (eqb c 114) (targetNext Read fs)
+    (pick (eqb c 119) (targetNext Write fs)
+    (pick (looks && eqb c 108) (targetNext Look fs) Bad))
 
--- a line of over 64 bytes is of no form
-unfoldable pub lineOf : List ℕ → Asked
-lineOf l = pick (ltb 64 (length l)) Bad (kindFirst (fieldsOf l))
+unfoldable pub kindFirst : Bool → List (List ℕ) → Asked
+kindFirst looks [] = Bad
+kindFirst looks ([] ∷ fs) = Bad
+kindFirst looks ((c ∷ []) ∷ fs) = kindNext looks c fs
+kindFirst looks ((c ∷ d ∷ f) ∷ fs) = Bad
+
+-- a line of over 64 bytes is of no form. A line of a trace has no look (02, C-12; docs/DECISIONS.md, D-42): one of explain may
+unfoldable pub lineOf : Bool → List ℕ → Asked
+lineOf looks l = pick (ltb 64 (length l)) Bad (kindFirst looks (fieldsOf l))

@@ -4,14 +4,16 @@ use crate::find::find;
 use crate::number::digit;
 use crate::number::number;
 use chip::Access;
+use chip::Kind;
 ghost use mathlib.Core.Path.{_≡_};
 ghost use mathlib.Core.List.{[]};
-ghost use Rattle.text.specs.Line.{lineOf, fieldsOf, targetNext, offsetNext, enablesNext, wordNext};
+ghost use Rattle.text.specs.Line.{lineOf, fieldsOf, kindNext, targetNext, offsetNext, enablesNext, wordNext};
 
 const SPACE: u8 = 32;
 
-pub fn read(s: &[u8]) -> Asked
-    ensures { λ r. ⌜ r ≡ lineOf (now (s .entry)) ⌝ }
+// With looks, a line may ask for a look.
+pub fn read(s: &[u8], looks: bool) -> Asked
+    ensures { λ r. ⌜ r ≡ lineOf looks (now (s .entry)) ⌝ }
 {
     if 64 < s.len() {
         return Asked::Bad;
@@ -22,17 +24,29 @@ pub fn read(s: &[u8]) -> Asked
     if s.len() == 1 {
         return Asked::Bad;
     }
-    if s[0] == b'r' {
-        return target(&s[2..], 0);
+    kind(&s[2..], s[0], looks)
+}
+
+// The first field is this byte alone.
+fn kind(s: &[u8], c: u8, looks: bool) -> Asked
+    ensures { λ r. ⌜ r ≡ kindNext looks c (fieldsOf (now (s .entry))) ⌝ }
+{
+    if c == b'r' {
+        return target(s, Kind::Read);
     }
-    if s[0] == b'w' {
-        return target(&s[2..], 1);
+    if c == b'w' {
+        return target(s, Kind::Write);
+    }
+    if looks {
+        if c == b'l' {
+            return target(s, Kind::Look);
+        }
     }
     Asked::Bad
 }
 
-fn target(s: &[u8], write: u32) -> Asked
-    ensures { λ r. ⌜ r ≡ targetNext write (fieldsOf (now (s .entry))) ⌝ }
+fn target(s: &[u8], k: Kind) -> Asked
+    ensures { λ r. ⌜ r ≡ targetNext k (fieldsOf (now (s .entry))) ⌝ }
 {
     if find(s, SPACE) != 1 {
         return Asked::Bad;
@@ -44,11 +58,11 @@ fn target(s: &[u8], write: u32) -> Asked
     if s.len() == 1 {
         return Asked::Bad;
     }
-    offset(&s[2..], write, t)
+    offset(&s[2..], k, t)
 }
 
-fn offset(s: &[u8], write: u32, t: u32) -> Asked
-    ensures { λ r. ⌜ r ≡ offsetNext write t (fieldsOf (now (s .entry))) ⌝ }
+fn offset(s: &[u8], k: Kind, t: u32) -> Asked
+    ensures { λ r. ⌜ r ≡ offsetNext k t (fieldsOf (now (s .entry))) ⌝ }
 {
     let e = find(s, SPACE);
     if e == s.len() {
@@ -58,11 +72,11 @@ fn offset(s: &[u8], write: u32, t: u32) -> Asked
     if !n.good {
         return Asked::Bad;
     }
-    enables(&s[e + 1..], write, t, n.value)
+    enables(&s[e + 1..], k, t, n.value)
 }
 
-fn enables(s: &[u8], write: u32, t: u32, o: u32) -> Asked
-    ensures { λ r. ⌜ r ≡ enablesNext write t o (fieldsOf (now (s .entry))) ⌝ }
+fn enables(s: &[u8], k: Kind, t: u32, o: u32) -> Asked
+    ensures { λ r. ⌜ r ≡ enablesNext k t o (fieldsOf (now (s .entry))) ⌝ }
 {
     let e = find(s, SPACE);
     let n = number(16, &s[..e]);
@@ -70,31 +84,31 @@ fn enables(s: &[u8], write: u32, t: u32, o: u32) -> Asked
         return Asked::Bad;
     }
     if e == s.len() {
-        return ended(write, t, o, n.value);
+        return ended(k, t, o, n.value);
     }
-    word(&s[e + 1..], write, t, o, n.value)
+    word(&s[e + 1..], k, t, o, n.value)
 }
 
 // Nothing is left behind the enables.
-fn ended(write: u32, t: u32, o: u32, e: u32) -> Asked
-    ensures { λ r. ⌜ r ≡ wordNext write t o e [] ⌝ }
+fn ended(k: Kind, t: u32, o: u32, e: u32) -> Asked
+    ensures { λ r. ⌜ r ≡ wordNext k t o e [] ⌝ }
 {
-    if write == 0 {
-        return Asked::For(Access {
-            target: t,
-            offset: o,
-            write: 0,
-            enables: e,
-            word: 0,
-        });
+    if k.is_write() {
+        return Asked::Bad;
     }
-    Asked::Bad
+    Asked::For(Access {
+        target: t,
+        offset: o,
+        kind: k,
+        enables: e,
+        word: 0,
+    })
 }
 
-fn word(s: &[u8], write: u32, t: u32, o: u32, e: u32) -> Asked
-    ensures { λ r. ⌜ r ≡ wordNext write t o e (fieldsOf (now (s .entry))) ⌝ }
+fn word(s: &[u8], k: Kind, t: u32, o: u32, e: u32) -> Asked
+    ensures { λ r. ⌜ r ≡ wordNext k t o e (fieldsOf (now (s .entry))) ⌝ }
 {
-    if write == 0 {
+    if !k.is_write() {
         return Asked::Bad;
     }
     if find(s, SPACE) != s.len() {
@@ -107,7 +121,7 @@ fn word(s: &[u8], write: u32, t: u32, o: u32, e: u32) -> Asked
     Asked::For(Access {
         target: t,
         offset: o,
-        write: 1,
+        kind: k,
         enables: e,
         word: n.value,
     })

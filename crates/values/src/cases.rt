@@ -4,6 +4,7 @@ use crate::say::say_answer;
 use crate::say::say_asked;
 use crate::say::say_opened;
 use chip::Access;
+use chip::Kind;
 use chip::State;
 
 // A length as a number of 32 bits; no buffer here is longer.
@@ -19,12 +20,36 @@ pub(crate) fn open_shown(width: u32, height: u32, memory: &mut [u8], picture: &m
     s
 }
 
-pub(crate) fn ask(s: State, a: Access, memory: &mut [u8], picture: &mut [u32]) -> State {
-    say_access(a);
-    let r = model::access::access(s, a, memory, picture);
-    say_answer(r);
+fn ask_read(s: State, a: Access, memory: &[u8], picture: &[u32]) -> State {
+    let r = model::read::read(s, a.target, a.offset, a.enables, memory, picture);
+    say_answer(r.status, r.word, r.known, r.changed);
     let t = r.state;
     t
+}
+
+fn ask_write(s: State, a: Access, memory: &mut [u8], picture: &mut [u32]) -> State {
+    let r = model::write::write(s, a.target, a.offset, a.enables, a.word, memory, picture);
+    say_answer(r.status, r.word, r.known, r.changed);
+    let t = r.state;
+    t
+}
+
+fn ask_look(s: State, a: Access, memory: &[u8], picture: &[u32]) {
+    let r = model::look::look(s, a.target, a.offset, a.enables, memory, picture);
+    say_answer(r.status, r.word, r.known, r.changed);
+}
+
+pub(crate) fn ask(s: State, a: Access, memory: &mut [u8], picture: &mut [u32]) -> State {
+    say_access(a);
+    let k = a.kind;
+    match k {
+        Kind::Read => ask_read(s, a, memory, picture),
+        Kind::Write => ask_write(s, a, memory, picture),
+        Kind::Look => {
+            ask_look(s, a, memory, picture);
+            s
+        }
+    }
 }
 
 // One access and then another.
@@ -43,7 +68,7 @@ pub(crate) fn read(target: u32, offset: u32, enables: u32) -> Access {
     Access {
         target,
         offset,
-        write: 0,
+        kind: Kind::Read,
         enables,
         word: 0,
     }
@@ -53,9 +78,19 @@ pub(crate) fn write(target: u32, offset: u32, enables: u32, word: u32) -> Access
     Access {
         target,
         offset,
-        write: 1,
+        kind: Kind::Write,
         enables,
         word,
+    }
+}
+
+pub(crate) fn look(target: u32, offset: u32, enables: u32) -> Access {
+    Access {
+        target,
+        offset,
+        kind: Kind::Look,
+        enables,
+        word: 0,
     }
 }
 

@@ -1,6 +1,6 @@
 // A line for an opening, and one for an access.
 use chip::Access;
-use chip::Answer;
+use chip::Kind;
 use chip::Opened;
 use console::say::say;
 use console::say::say_hex;
@@ -31,31 +31,36 @@ pub(crate) fn say_opened(o: Opened) {
     say(b"\n");
 }
 
-pub(crate) fn say_access(a: Access) {
-    if a.write == 0 {
-        say(b"r ");
-    } else {
-        say(b"w ");
+fn say_kind(k: Kind) {
+    match k {
+        Kind::Read => say(b"r "),
+        Kind::Write => say(b"w "),
+        Kind::Look => say(b"l "),
     }
+}
+
+pub(crate) fn say_access(a: Access) {
+    let k = a.kind;
+    say_kind(k);
     say_number(a.target);
     say(b" ");
     say_hex(a.offset);
     say(b" ");
     say_hex(a.enables);
-    if a.write != 0 {
+    if k.is_write() {
         say(b" ");
         say_word(a.word);
     }
     say(b" -> ");
 }
 
-pub(crate) fn say_answer(r: Answer) {
-    say_number(r.status);
+pub(crate) fn say_answer(status: u32, word: u32, known: u32, changed: u32) {
+    say_number(status);
     say(b" ");
-    say_word(r.word);
+    say_word(word);
     say(b" ");
-    say_word(r.known);
+    say_word(known);
     say(b" ");
-    say_number(r.changed);
+    say_number(changed);
     say(b"\n");
 }

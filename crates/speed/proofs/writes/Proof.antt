@@ -15,11 +15,14 @@ abbrev μ-loop : tie.MeasureT-loop
 loop-holds : tie.Need-loop-holds Inv-loop μ-loop
 loop-holds c = (refl, refl)
 
-nth-requires : tie.Need-nth-requires Inv-loop μ-loop
-nth-requires c κs = search needs
+offset-of-requires : tie.Need-offset-of-requires Inv-loop μ-loop
+offset-of-requires c κs = search needs
 
-access-requires : tie.Need-access-requires Inv-loop μ-loop
-access-requires c κs = search needs
+word-of-requires : tie.Need-word-of-requires Inv-loop μ-loop
+word-of-requires c κs = search needs
+
+write-requires : tie.Need-write-requires Inv-loop μ-loop
+write-requires c κs = search needs
 
 wrapping-add-u32-requires : tie.Need-wrapping-add-u32-requires Inv-loop μ-loop
 wrapping-add-u32-requires c κs = search needs
@@ -49,8 +52,9 @@ writes-spec =
     Inv-loop
     μ-loop
     loop-holds
-    nth-requires
-    access-requires
+    offset-of-requires
+    word-of-requires
+    write-requires
     wrapping-add-u32-requires
     add-i
     loop-less

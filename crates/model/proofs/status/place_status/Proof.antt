@@ -3,7 +3,7 @@ use mathlib.Core.Path.{refl}
 use Rattle.bits.proofs.Cases.{pick-same}
 use mathlib.Core.Bool.{true}
 use Rattle.chip.specs.Port.{portAt}
-use Rattle.chip.specs.Refusal.{isWrite}
+use Rattle.chip.specs.Access.{isWrite}
 use Rattle.model.proofs.TestLaws.{line-five, no-line}
 use borrow.Author.Needs.{needs}
 use Rattle.model.proofs.status.place_status.Statement.{statement}

@@ -4,7 +4,7 @@ use mathlib.Core.Path.{_∙_}
 use borrow.Author.Tests.{not-true, not-false}
 use Rattle.bits.proofs.Cases.{pick-same}
 use Rattle.chip.specs.Port.{portAt}
-use Rattle.chip.specs.Refusal.{isWrite}
+use Rattle.chip.specs.Access.{isWrite}
 use Rattle.model.proofs.TestLaws.{line-five, line-seven, no-line, fits-by, served-by}
 use borrow.Author.Needs.{needs}
 use Rattle.model.proofs.status.window_status.Statement.{statement}

@@ -14,8 +14,8 @@ enum-told c = search needs
 enum-told-2 : tie.Need-enum-told-2
 enum-told-2 c = search needs
 
-dac-peeked-requires : tie.Need-dac-peeked-requires
-dac-peeked-requires c κs = search needs
+dac-fetched-requires : tie.Need-dac-fetched-requires
+dac-fetched-requires c κs = search needs
 
 enum-known-p-2 : tie.Need-enum-known-p-2
 enum-known-p-2 c = search needs
@@ -35,7 +35,7 @@ unfolding portAt
 returns-2 c = λ s e. rw (c .enum-told .given .1) (sym e)
 
 returns-3 : tie.Need-returns-3
-returns-3 c = λ s e. rw (c .before .enum-told2 .given .1) (c .dac-peeked .ensures s e)
+returns-3 c = λ s e. rw (c .before .enum-told2 .given .1) (c .dac-fetched .ensures s e)
 
 returns-4 : tie.Need-returns-4
 unfolding portAt
@@ -56,7 +56,7 @@ dac-after-spec =
     enum-known-p
     enum-told
     enum-told-2
-    dac-peeked-requires
+    dac-fetched-requires
     enum-known-p-2
     enum-told-3
     enum-told-4

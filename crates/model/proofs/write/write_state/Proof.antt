@@ -1,11 +1,11 @@
--- `model::access::write_state` settles a write of state.
+-- `model::write::write_state` settles a write of state.
 -- State and redraw (DoneLaws.wrote). Assumes nothing.
 use mathlib.Core.Path.{sym, _∙_}
 use Rattle.picture.proofs.Parts.{no-redraw}
 use Rattle.model.proofs.DoneLaws.{fits-after, redraws-by, wrote}
 use borrow.Author.Needs.{needs}
-use Rattle.model.proofs.access.write_state.Statement.{statement}
-use Rattle.model.proofs.access.write_state.Tie as tie
+use Rattle.model.proofs.write.write_state.Statement.{statement}
+use Rattle.model.proofs.write.write_state.Tie as tie
 
 written-at-requires : tie.Need-written-at-requires
 written-at-requires c κs = search needs

@@ -8,9 +8,10 @@ struct plain_answer {
     uint32_t status, word, known, changed;
 };
 
-/* The status; s is set in every case. Reads and looks have no use for the picture itself. */
+/* The status; s is set in every case. */
 uint32_t plain_open(struct pm_state *s, uint32_t width, uint32_t height, uint8_t *memory, size_t memory_length, uint32_t *picture, size_t picture_length);
 
+/* Reads and looks have no use for the picture itself. */
 struct plain_answer plain_read(struct pm_state *s, uint32_t target, uint32_t offset, uint32_t enables, const uint8_t *memory, size_t memory_length,
     size_t picture_length);
 

@@ -7,7 +7,7 @@ program loads a palette, on a panel of 32 by 8 with 256 bytes of memory.
     watching.py look --steps                      what each range of lines does
 
 The window shows what palette data holds, anew after each access that the program
-makes to the RAMDAC. The two traces differ in that alone: the letter at the
+makes to the palette while it is open. The two traces differ in that alone: the letter at the
 beginning of the window's lines. A read steps to the next component and drops
 what is staged, so that no entry is ever stored; a look does neither. `explain`
 takes looks, the trace program does not.

@@ -2,7 +2,8 @@
  *
  * Four functions are the model: pm_open, pm_read, pm_write and pm_look. All are total: whatever numbers they are handed, they end with an answer or
  * with one numbered refusal. The caller keeps three things and hands them in at each call: the state (by value; a new one comes back from all but a
- * look), the memory and the picture. A read steps the palette's component as the chip's does; a look gives the same answer and alters nothing.
+ * look), the memory and the picture. A read of palette data steps to the next component, as the chip's does; a look gives the same answer and alters
+ * nothing.
  * Nothing else is kept anywhere, so that a state can be copied, stored and gone back to, and two chips never meet.
  *
  * The archive that `rt staticlib reefstencil` writes, target/staticlib/libreefstencil.a, is for x86-64 Linux (System V calls). It calls nothing
@@ -33,7 +34,8 @@ extern "C" {
 /* ---- the status of an answer ---- */
 
 /* A read, a write and a look are tested in the order 1 to 7, an opening in the order 8, 9, 2. A refused read, write or look alters nothing, and its answer
- * is zeros, of a read or a write with the state as it was handed in; a refused opening leaves both buffers, and gives a state of 0 by 0 dots. */
+ * is the number and zeros; that of a read or a write has the state as it was handed in. A refused opening leaves both buffers, and gives a state of 0 by
+ * 0 dots. */
 enum pm_status {
     PM_DONE = 0,
     PM_NO_STATE = 1,      /* not a state */
@@ -224,7 +226,7 @@ struct pm_opened {
 /* Opens a panel. Fills picture, which must have width * height words, with PM_DOT_OFF, and leaves memory as it is. */
 struct pm_opened pm_open(uint32_t width, uint32_t height, uint8_t *memory, size_t memory_length, uint32_t *picture, size_t picture_length);
 
-/* For these three, memory and picture have the lengths of the opening. */
+/* For these three, memory and picture have the lengths of the opening. A read and a look ask the picture for its length alone. */
 
 /* A read. Of the state it alters the palette's component, address and staged bytes, and these only where it reads palette data. */
 struct pm_answer pm_read(struct pm_state s, uint32_t target, uint32_t offset, uint32_t enables, const uint8_t *memory, size_t memory_length,
@@ -234,7 +236,7 @@ struct pm_answer pm_read(struct pm_state s, uint32_t target, uint32_t offset, ui
 struct pm_answer pm_write(struct pm_state s, uint32_t target, uint32_t offset, uint32_t enables, uint32_t word, uint8_t *memory, size_t memory_length,
     uint32_t *picture, size_t picture_length);
 
-/* A look: exactly what pm_read with the same arguments would answer, its refusals too, and nothing altered. For watch windows and debuggers: looked at as
+/* A look: exactly the status, word, known and changed that pm_read with the same arguments would answer, and nothing altered. For watch windows and debuggers: looked at as
  * often as you like, palette data stays at its component and a load under way is not disturbed. */
 struct pm_looked pm_look(struct pm_state s, uint32_t target, uint32_t offset, uint32_t enables, const uint8_t *memory, size_t memory_length,
     const uint32_t *picture, size_t picture_length);

@@ -2,19 +2,18 @@
 -- A contract is the whole equation, so a call gives what the definition gives; a run by induction. Assumes nothing.
 use Prim.Native.Nat.{ℕ}
 use mathlib.Core.List.{List, [], _∷_}
-use mathlib.Core.Bool.{true, false}
 use mathlib.Core.Path.{_≡_, refl, sym, ap, ap₂, _∙_, subst}
 use denote.Ref.{now}
-use Rattle.bits.proofs.Bools.{clash}
 use Rattle.chip.specs.declared.State.{State}
 use Rattle.chip.specs.declared.Access.{Access}
 use Rattle.chip.specs.declared.Answer.{Answer}
 use Rattle.chip.specs.declared.Opened.{Opened}
 use Rattle.chip.specs.declared.Kind.{Kind}
 use Rattle.chip.specs.declared.Kind.the-variants.{Read, Write, Look}
-use Rattle.chip.specs.Access.{reads, writes, looks, writing}
+use Rattle.chip.specs.Access.{reads, writes, looks}
 use Rattle.chip.specs.Step.{Outcome, Opening, Gives, Opens, shownAt, openOf}
 use Rattle.chip.specs.Trace.{World, opened, step, after, run}
+use Rattle.chip.proofs.Operations.{is-no-write, read-writes-not, look-is, look-writes-not}
 use Rattle.promises.specs.Looks.{answersOf}
 use Rattle.promises.proofs.Promise9Looks.{word-unasked}
 use Rattle.calls.specs.Calls.{ReadCalled, WriteCalled, LookCalled, Called, of-read, of-write, of-look, OpenCalled, Calls, none, more}
@@ -32,14 +31,11 @@ record Agrees (x : World) (a : Access) (r : Answer) (y : World) : Type 0 where
   leaves : y ≡ after x a
 
 -- the operation that an access of its kind is, with its numbers: a read and a look have no word
-no-write : (a : Access) → writing (a .kind) ≡ false → a .kind ≡ Write → ⊥
-no-write a e w = clash (writing (a .kind)) (ap writing w) e
-
 pub read-of : (x : World) (a : Access) → a .kind ≡ Read → step x (reads (a .target) (a .offset) (a .enables)) ≡ step x a
-read-of x a k = word-unasked x a (reads (a .target) (a .offset) (a .enables)) (no-write a (ap writing k)) (sym k) refl refl refl
+read-of x a k = word-unasked x a (reads (a .target) (a .offset) (a .enables)) (is-no-write a (read-writes-not a k)) (sym k) refl refl refl
 
 pub look-of : (x : World) (a : Access) → a .kind ≡ Look → step x (looks (a .target) (a .offset) (a .enables)) ≡ step x a
-look-of x a k = word-unasked x a (looks (a .target) (a .offset) (a .enables)) (no-write a (ap writing k)) (sym k) refl refl refl
+look-of x a k = word-unasked x a (looks (a .target) (a .offset) (a .enables)) (is-no-write a (look-writes-not a (look-is a k))) (sym k) refl refl refl
 
 pub write-of : (a : Access) → a .kind ≡ Write → writes (a .target) (a .offset) (a .enables) (a .word) ≡ a
 write-of a k = ap (λ (q : Kind). (let b : Access = record { target = a .target; offset = a .offset; kind = q; enables = a .enables; word = a .word } in b)) (sym k)

@@ -22,7 +22,7 @@ use Rattle.calls.proofs.Calls.{read-of, look-of, write-of}
 abbrev ref : ℕ → List ℕ → RefT (List ℕ)
 ref n m = record { ptr = (n, 0); name = n; now = m }
 
--- what a read and a look give in the words of their contracts
+-- what a read, a write and a look give in the words of their contracts
 read-called : (x : World) (a : Access) → a .kind ≡ Read → ReadCalled x a (step x a .answer) (after x a)
 read-called x a k =
     let o = read-of x a k in

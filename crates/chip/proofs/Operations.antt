@@ -62,12 +62,12 @@ unfolding isLook
 write-looks-not a e = ap looking (is-write a e)
 
 -- no write: the two ways of saying it
-pub is-read : (a : Access) → isWrite a ≡ false → a .kind ≡ Write → ⊥
-is-read a e w = clash (isWrite a) (write-is a w) e
+pub is-no-write : (a : Access) → isWrite a ≡ false → a .kind ≡ Write → ⊥
+is-no-write a e w = clash (isWrite a) (write-is a w) e
 
-pub read-is : (a : Access) → (a .kind ≡ Write → ⊥) → isWrite a ≡ false
+pub no-write-is : (a : Access) → (a .kind ≡ Write → ⊥) → isWrite a ≡ false
 unfolding isWrite
-read-is a f = unwritten (a .kind) f
+no-write-is a f = unwritten (a .kind) f
   where
     unwritten : (k : Kind) → (k ≡ Write → ⊥) → writing k ≡ false
     unwritten Read f = refl

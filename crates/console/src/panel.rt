@@ -191,7 +191,7 @@ pub fn panel() {
     );
 }
 
-// explain [WIDTHxHEIGHT BYTES [PICTURE.ppm]]: the same in words.
+// explain [WIDTHxHEIGHT BYTES [PICTURE.ppm]]: the same in words, and looks too.
 pub fn explain() {
     from_arguments(
         true,

@@ -1,5 +1,5 @@
--- From a redraw and a state to what the definition of an access gives: reads, writes of state, refusals.
--- The definitions opened one after the other; reads and quiet writes draw nothing (QuietLaws). Assumes nothing.
+-- From a redraw and a state to what the definition of an access gives: reads, writes of state, looks, refusals.
+-- The definitions opened one after the other; reads, looks and quiet writes draw nothing (QuietLaws). Assumes nothing.
 use Prim.Native.Nat.{ℕ, _*_}
 use mathlib.Core.Bool.{Bool, true, false, not, _&&_}
 use mathlib.Core.List.{List, []}

@@ -1,4 +1,4 @@
--- What a read sees, put together from its two words.
+-- What a read or a look sees, put together from its two words.
 -- Field by field. Assumes nothing.
 use Prim.Native.Nat.{ℕ}
 use mathlib.Core.List.{List}

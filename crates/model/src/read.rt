@@ -1,4 +1,4 @@
-// A read: refused with nothing altered, or done. Memory and picture are lent to be looked at.
+// A read: refused with nothing altered, or done. Memory and picture are lent to be read only.
 ghost use mathlib.Core.Path.{_≡_};
 ghost use Rattle.chip.specs.Access.{reads};
 ghost use Rattle.chip.specs.Patch.{applied};

@@ -1,4 +1,4 @@
-// What a read sees before its lanes are picked.
+// What a read or a look sees before its lanes are picked.
 ghost use mathlib.Core.Path.{_≡_};
 ghost use mathlib.Core.List.{[]};
 ghost use Rattle.chip.specs.declared.Place.the-variants.{Register, PaletteData, Window};

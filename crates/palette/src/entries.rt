@@ -111,7 +111,7 @@ pub fn palette_sound<'a>(
     faults == 0
 }
 
-// What a palette data read sees: a component as the width shows it, and eight unknown bits of an entry never stored.
+// What a read or a look of palette data sees: a component as the width shows it, and eight unknown bits of an entry never stored.
 pub fn seen_palette(wide: bool, d: Dac, p: Palette) -> Seen
     ensures { λ r. ⌜ r ≡ seenPart wide (d .component) (entryOf p (d .address)) ⌝ }
 {

@@ -1,5 +1,5 @@
 -- The palette's address after an opening and any list of accesses: unknown until it is set, and then the value set plus one for each third component.
--- The address and the component together are a position from 0 to 767, which a data access moves by one. Assumes nothing.
+-- The address and the component together are a position from 0 to 767, which a read or a write of palette data moves by one. Assumes nothing.
 use Prim.Native.Nat.{ℕ, _+_, _*_, _%_, _<_, _≤_}
 use mathlib.Core.Bool.{Bool, true, false}
 use mathlib.Core.List.{List, [], _∷_, _++_}

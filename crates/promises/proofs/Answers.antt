@@ -126,7 +126,7 @@ still-picture x a =
     by-way (λ (o : Outcome). StepsOnly (x .state) (o .answer .state) → o .memory ≡ x .memory → o .picture ≡ x .picture) x a
     (λ d e f. redrawn-alike _ _ (x .picture) (still-word (x .state) _ (x .memory) _ e f)) (λ e f. refl)
 
--- a read, accepted or refused, alters nothing but the palette's address, component and stage
+-- a read or a look, accepted or refused, alters nothing but the palette's address, component and stage
 pub read-leaves : (x : World) (a : Access) → isWrite a ≡ false → LeavesRest x (after x a)
 read-leaves x a w =
     let e = read-state x a w in

@@ -1,6 +1,6 @@
--- What an access to palette data is, part by part.
+-- What a read or a write of palette data is (`isData`), part by part.
 -- By its definition, a chain of tests. Assumes nothing.
-use mathlib.Core.Bool.{true, false, not, _&&_}
+use mathlib.Core.Bool.{true, false, not}
 use mathlib.Core.Path.{_≡_}
 use borrow.Author.Tests.{not-true}
 use Rattle.bits.specs.Bit.{bit}

@@ -104,7 +104,7 @@ told s a Nowhere = record { store = refl; once = refl; dac = refl; paint = refl;
 
 -- ---- by the access
 
--- the RAMDAC's pointer after a palette data access
+-- the RAMDAC's pointer after a read or a write of palette data
 abbrev pub stepped : State → Access → Dac
 stepped s a = pick (isWrite a) (afterPaint (s .dac) (keptFrom s a)) (afterFetch (s .dac))
 

@@ -8,9 +8,7 @@ use native.Mathlib.Omega.{arith}
 use borrow.Author.Tests.{leb-true}
 use lib.ListN.{length, length-set}
 use Rattle.bits.specs.Choose.{pick}
-use Rattle.bits.specs.Bit.{bit}
 use Rattle.bits.proofs.Cases.{pick-by, pick-when}
-use Rattle.bits.proofs.Bools.{and-first, and-second}
 use Rattle.chip.specs.declared.State.{State}
 use Rattle.chip.specs.declared.Access.{Access}
 use Rattle.chip.specs.declared.Dac.{Dac}
@@ -27,7 +25,7 @@ use Rattle.chip.specs.Trace.{World}
 use Rattle.chip.proofs.Entries.{Entries, entries-kept, palette-kept}
 use Rattle.promises.specs.Good.{Formed, Good}
 use Rattle.promises.specs.Reach.{reachAt}
-use Rattle.promises.specs.History.{accepted, isAim, isData}
+use Rattle.promises.specs.History.{isAim, isData}
 use Rattle.promises.proofs.Patches.{patchAt}
 use Rattle.promises.proofs.Sane.{Sane, sane}
 use Rattle.promises.proofs.Bank.{bank-kept, once-kept}
@@ -116,7 +114,7 @@ module _ (s : State) (z : Sane s) (f : Formed s) where
             };
       }
 
-  -- a palette data access, where the address is known
+  -- a read or a write of palette data, where the address is known
   stepped-settled : (a : Access) → s .dac .known ≡ 0xFF → Settled (stepped s a)
   unfolding afterFetch
   stepped-settled a k =

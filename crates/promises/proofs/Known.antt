@@ -1,5 +1,5 @@
--- What a read shows as known after an opening and any list of accesses is exactly what it was told.
--- Place by place, from what a read shows there (Shown) and what is held there (Promise4Origins). Assumes nothing.
+-- What a read or a look shows as known after an opening and any list of accesses is exactly what it was told.
+-- Place by place, from what is shown there (Shown) and what is held there (Promise4Origins). Assumes nothing.
 use Prim.Native.Nat.{ℕ, _+_, _/_, _%_, _<_}
 use mathlib.Core.Bool.{Bool, true, false, not, Bool·beq}
 use mathlib.Core.List.{List}
@@ -37,7 +37,7 @@ use Rattle.promises.specs.Told.{Told, stored, stated, blank, address, pa
 use Rattle.promises.proofs.Options.{absurd-put, some-is, picked}
 use Rattle.promises.proofs.Sites.{row-there, address-there}
 use Rattle.promises.proofs.Places.{leads-place, leads-register, leads-address, leads-palette, leads-window, leads-blank}
-use Rattle.chip.proofs.Operations.{is-read, read-is}
+use Rattle.chip.proofs.Operations.{is-no-write, no-write-is}
 use Rattle.promises.proofs.Passed.{found-test}
 use Rattle.promises.proofs.Worlds.{good-along, opened-good, opens, memory-along}
 use Rattle.promises.proofs.Shown.{found, shows-register, shows-blank, shows-address, shows-palette, shows-memory}
@@ -86,9 +86,9 @@ module _ (w h : ℕ) (m p : List ℕ) (o : Openable w h m p) (l : List Access) (
   good : Good x
   good = good-along (opened w h m p) l (opened-good w h m p o)
 
-  -- only an accepted read shows anything
-  accepted-read : shows (step x a .answer) b ≡ some v → Seeing x a
-  accepted-read e =
+  -- only a read or a look that is accepted shows anything
+  accepted-seeing : shows (step x a .answer) b ≡ some v → Seeing x a
+  accepted-seeing e =
       byTest (isWrite a)
       (λ t. absurd-put _ v (shows-nothing (step x a .answer) b (writes-answer-zero x a t .1)) e)
       (λ t.
@@ -247,8 +247,8 @@ module _ (w h : ℕ) (m p : List ℕ) (o : Openable w h m p) (l : List Access) (
   pub known-exact : (shows (step x a .answer) b ≡ some v) ↔ ShownBy (opened w h m p) l a b v
   known-exact = (
     (λ f.
-        let q = accepted-read f in
+        let q = accepted-seeing f in
         let z = told-at q (placeOf (x .state) a) refl f in
-        record { accepted = q .done; read = is-read a (q .read); lane = z .0; told = z .1 }),
-    (λ f. shown (record { read = read-is a (f .read); done = f .accepted }) (f .lane) (f .told)),
+        record { accepted = q .done; read = is-no-write a (q .read); lane = z .0; told = z .1 }),
+    (λ f. shown (record { read = no-write-is a (f .read); done = f .accepted }) (f .lane) (f .told)),
   )

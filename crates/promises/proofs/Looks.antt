@@ -1,4 +1,4 @@
--- Reads and looks that ask for the same are answered alike; a look leaves the world as it was; so a list of accesses is the list without its looks.
+-- Reads and looks that ask for the same are answered alike; a look leaves the world as it was; so a list of accesses leaves, and answers its reads and writes, as without its looks.
 -- Tests of a place and what is seen there ask for the offset alone; what stores nothing draws nothing; then by the list. Assumes nothing.
 use Prim.Native.Nat.{ℕ}
 use mathlib.Core.Bool.{true, false}

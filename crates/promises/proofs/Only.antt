@@ -58,7 +58,7 @@ aim-after x a t =
     (sym (dac-step x a ∙ ap (λ (o : Option Dac). Option·getD o (x .state .dac)) (simp t at (does x a .dac))))
     (record { address = refl; known = refl; component = refl; staged = record { count = refl; red = refl; green = refl } })
 
--- a palette data access
+-- a read or a write of palette data
 advanced-is : (d : Dac) (n r g : ℕ) → d .component ≤ 2 → d .address < 256 → Advanced d (advanced d n r g)
 unfolding advanced
 advanced-is d n r g hc ha =

@@ -24,7 +24,7 @@ use Rattle.chip.specs.Port.{portAt}
 use Rattle.chip.specs.Access.{isWrite}
 use Rattle.chip.specs.Refusal.{Line, line, firstOf, portOf}
 use Rattle.chip.specs.Trace.{World}
-use Rattle.chip.proofs.Operations.{is-read, is-write, read-is, write-is}
+use Rattle.chip.proofs.Operations.{is-no-write, is-write, no-write-is, write-is}
 use Rattle.promises.specs.Reach.{reachAt}
 use Rattle.promises.specs.Places.{Leads, address, palette, indexed, region, one, two, header, blank}
 use Rattle.promises.specs.Refusals.{Lent, Asked, Found, Directed, Served}
@@ -203,14 +203,14 @@ module _ (s : State) (a : Access) where
   directed-of : directed (reachAt (placeOf s a) .row) ≡ true → Directed s a
   directed-of t =
       record {
-        reads = λ i d w. simp (read-is a w) at (subst (λ (o : Option ℕ). directed o ≡ true) (row-of i d) t);
+        reads = λ i d w. simp (no-write-is a w) at (subst (λ (o : Option ℕ). directed o ≡ true) (row-of i d) t);
         writes = λ i d w. simp (write-is a w) at (subst (λ (o : Option ℕ). directed o ≡ true) (row-of i d) t);
       }
 
   of-directed : Directed s a → (o : Option ℕ) → reachAt (placeOf s a) .row ≡ o → directed o ≡ true
   of-directed f none e = pick-same (isWrite a) true
   of-directed f (some i) e =
-      byTest (isWrite a) (λ w. simp w (f .writes i (to-row i e) (is-write a w))) (λ w. simp w (f .reads i (to-row i e) (is-read a w)))
+      byTest (isWrite a) (λ w. simp w (f .writes i (to-row i e) (is-write a w))) (λ w. simp w (f .reads i (to-row i e) (is-no-write a w)))
 
   pub directed-test : (not (pick (isWrite a) (portOf s a .writes) (portOf s a .reads)) ≡ false) ↔ Directed s a
   unfolding portOf

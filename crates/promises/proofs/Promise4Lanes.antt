@@ -20,7 +20,7 @@ use Rattle.chip.specs.declared.Place.the-variants.{Window}
 use Rattle.chip.specs.Aperture.{swapOf, laneOf, reach}
 use Rattle.chip.specs.Trace.{World, opened, step, after, run}
 use Rattle.chip.proofs.Refusals.{unrefused}
-use Rattle.chip.proofs.Operations.{is-read}
+use Rattle.chip.proofs.Operations.{is-no-write}
 use Rattle.promises.specs.Good.{Good, Openable}
 use Rattle.promises.specs.Places.{Leads}
 use Rattle.promises.specs.History.{Seeing, shows}
@@ -131,7 +131,7 @@ pub last-write-shown : (w h : ℕ) (m p : List ℕ) → Openable w h m p → (l 
     → (f : LaneWritten (opened w h m p) l a i (b / 8)) → shows (step (run (opened w h m p) l) a .answer) b ≡ some (bit b (f .by .word))
 last-write-shown w h m p o l a q i d b hb t f =
     known-exactly w h m p o l a b hb (bit b (f .by .word)) .1
-    (record { accepted = q .done; read = is-read a (q .read); lane = t; told = poked i d (laneByte (b / 8) (f .by .word)) stored (bit-lane b (f .by .word)) })
+    (record { accepted = q .done; read = is-no-write a (q .read); lane = t; told = poked i d (laneByte (b / 8) (f .by .word)) stored (bit-lane b (f .by .word)) })
   where
     x : World
     x = run (opened w h m p) (f .before)

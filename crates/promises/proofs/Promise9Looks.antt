@@ -1,5 +1,5 @@
--- Promise 9 (02, C-12). A look gives a read's answer and alters nothing: the read that follows it answers the same, and a list of reads, writes and looks is that list without
--- its looks. On any world. From the laws of Looks. Assumes nothing.
+-- Promise 9 (02, C-12). A look gives a read's answer and alters nothing: the read that follows it answers the same, and a list of reads, writes and looks leaves,
+-- and answers its reads and writes, as that list without its looks. On any world. From the laws of Looks. Assumes nothing.
 use Prim.Native.Nat.{ℕ}
 use mathlib.Core.Bool.{true}
 use mathlib.Core.List.{List, [], _∷_, _++_}
@@ -14,7 +14,7 @@ use Rattle.chip.specs.declared.Kind.the-variants.{Read, Write, Look}
 use Rattle.chip.specs.Access.{reads, writes, looks, looking, isLook}
 use Rattle.chip.specs.Step.{shownAt}
 use Rattle.chip.specs.Trace.{World, step, after, run}
-use Rattle.chip.proofs.Operations.{look-is, no-look-is, read-is, read-writes-not, look-writes-not}
+use Rattle.chip.proofs.Operations.{look-is, no-look-is, no-write-is, read-writes-not, look-writes-not}
 use Rattle.promises.specs.Looks.{Asks, SameAsked, SameShown, unlooked, answersOf, othersIn}
 use Rattle.promises.proofs.Address.{run-append}
 use Rattle.promises.proofs.Looks.{unchanged, shown-alike, done-alike, look-leaves, looks-leave, answers-append, runs-alike, others-alike}
@@ -86,4 +86,4 @@ pub word-unasked : (x : World) (a b : Access) → (a .kind ≡ Write → ⊥) �
     → step x b ≡ step x a
 unfolding isLook
 word-unasked x a b n k t o e =
-    done-alike x a b (read-is a n) (read-is b (λ w. n (sym k ∙ w))) t o e (ap looking k)
+    done-alike x a b (no-write-is a n) (no-write-is b (λ w. n (sym k ∙ w))) t o e (ap looking k)

@@ -97,7 +97,7 @@ unfolding seenBit
 none-part b = simp (bit-of-zero b)
 
 module _ (x : World) (a : Access) (b : ℕ) (q : Seeing x a) (hb : b < 32) where
-  -- what a read shows at bit b, given what it sees there
+  -- what a read or a look shows at bit b, given what it sees there
   at-place : (p : Place) (o : Option Bool) → placeOf (x .state) a ≡ p
       → seenBit (bit b (portAt (x .state) a p .seen (x .memory) .known)) (bit b (portAt (x .state) a p .seen (x .memory) .value)) ≡ o
       → shows (step x a .answer) b ≡ pick (bit (b / 8) (a .enables)) o none

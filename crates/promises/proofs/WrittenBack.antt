@@ -44,7 +44,7 @@ unfolding patchAt patchOf portOf portAt pokePatch applied
 window-leaves x a i e =
     after-state x a ∙ byTest (accepted x a) (λ t. byTest (isWrite a) (λ w. simp (t, w, e)) (λ w. byTest (isLook a) (λ k. simp (t, w, k)) (λ k. simp (t, w, k, e)))) (λ t. simp t)
 
--- a read through an aperture is accepted where its four bytes are fitted and the mode is served
+-- a read or a look through an aperture is accepted where its four bytes are fitted and the mode is served
 read-accepted : (x : World) (r : Access) (i : ℕ) → Good x → placeOf (x .state) r ≡ Window i → isWrite r ≡ false → r .target ≤ 3 → r .enables ≤ 15 → r .offset % 4 ≡ 0
     → reachesMemory (x .state .fitted) (span (getD (x .state .values) i 0) (atByte (r .offset))) ≡ true → served (getD (x .state .values) i 0) ≡ true → statusAt x r ≡ 0
 unfolding portStatus portAt

@@ -5,7 +5,7 @@ use mathlib.Core.Bool.{Bool, true, false, _&&_}
 use mathlib.Core.List.{List, [], _∷_}
 use mathlib.Core.Path.{_≡_, refl, sym, ap, subst, _∙_}
 use native.Mathlib.Omega.{arith}
-use borrow.Author.Tests.{eq-eqb, ne-eqb, lt-ltb, le-ltb, eqb-true, eqb-false}
+use borrow.Author.Tests.{lt-ltb, le-ltb, eqb-true, eqb-false}
 use lib.Dec.{eqb, ltb}
 use lib.ListN.{length, getD, take, drop, length-drop}
 use lib.Seq.{length-take-le, take-all, take-suc}
@@ -45,11 +45,15 @@ fields-some P p (c ∷ l) =
     front [] = p (c ∷ []) []
     front (f ∷ fs) = p (c ∷ f) fs
 
+-- a line without a space is one field
+whole : (l : List ℕ) → length (upTo 32 l) ≡ length l → upTo 32 l ≡ l
+whole l e = sym (upTo-take 32 l) ∙ take-all (length (upTo 32 l)) l (omega arith)
+
 -- it goes up to the first space
 fields-front : (P : List (List ℕ) → Type 0) (l : List ℕ) → ((fs : List (List ℕ)) → P (upTo 32 l ∷ fs)) → P (fieldsOf l)
 fields-front P l p =
     byTest (eqb (length (upTo 32 l)) (length l))
-    (λ t. let e = eqb-same t in subst P (sym (fields-last l e)) (subst (λ (k : List ℕ). P (k ∷ [])) (whole e) (p [])))
+    (λ t. let e = eqb-same t in subst P (sym (fields-last l e)) (subst (λ (k : List ℕ). P (k ∷ [])) (whole l e) (p [])))
     (λ t. subst P (sym (fields-more l (shorter t))) (p (fieldsOf (drop (suc (length (upTo 32 l))) l))))
   where
     eqb-same : eqb (length (upTo 32 l)) (length l) ≡ true → length (upTo 32 l) ≡ length l
@@ -57,9 +61,6 @@ fields-front P l p =
 
     shorter : eqb (length (upTo 32 l)) (length l) ≡ false → length (upTo 32 l) < length l
     shorter t = let h = upTo-le 32 l in let n = eqb-false (length (upTo 32 l)) (length l) t in omega arith
-
-    whole : length (upTo 32 l) ≡ length l → upTo 32 l ≡ l
-    whole e = sym (upTo-take 32 l) ∙ take-all (length (upTo 32 l)) l (omega arith)
 
 -- and behind it are the others
 fields-split : (l : List ℕ) (e : ℕ) → e ≡ length (upTo 32 l) → (e ≡ length l → ⊥)
@@ -140,10 +141,7 @@ module _ (l : List ℕ) (w : Kind) (t o : ℕ) (d : ℕ) (q : d ≡ length (upTo
       (simp (sym (good-is n (upTo 32 l) there) ∙ g, p, value-is n (upTo 32 l) there g))
 
   pub enables-ended : n .good ≡ true → d ≡ length l → (r : Asked) → r ≡ wordNext w t o (n .value) [] → r ≡ enablesNext w t o (fieldsOf l)
-  enables-ended g h r p = enables-goes g r [] (fields-last l (sym q ∙ h) ∙ ap (λ (k : List ℕ). k ∷ []) (sym whole)) p
-    where
-      whole : upTo 32 l ≡ l
-      whole = sym (upTo-take 32 l) ∙ take-all (length (upTo 32 l)) l (omega arith)
+  enables-ended g h r p = enables-goes g r [] (fields-last l (sym q ∙ h) ∙ ap (λ (k : List ℕ). k ∷ []) (sym (whole l (sym q ∙ h)))) p
 
   pub enables-more : n .good ≡ true → (d ≡ length l → ⊥) → (r : Asked)
       → r ≡ wordNext w t o (n .value) (fieldsOf (take (length l - (d + 1)) (drop (d + 1) l))) → r ≡ enablesNext w t o (fieldsOf l)
@@ -241,14 +239,11 @@ module _ (l : List ℕ) (d : ℕ) (q : d ≡ length (upTo 32 l)) where
     pub kind-last : (k : Bool) → length l ≡ 1 → Bad ≡ kindFirst k (fieldsOf l)
     unfolding kindNext targetNext
     kind-last k h =
-        subst (λ (fs : List (List ℕ)). Bad ≡ kindFirst k fs) (sym (fields-last l (sym q ∙ o ∙ sym h) ∙ ap (λ (f : List ℕ). f ∷ []) (sym whole)))
+        subst (λ (fs : List (List ℕ)). Bad ≡ kindFirst k fs) (sym (fields-last l (sym q ∙ o ∙ sym h) ∙ ap (λ (f : List ℕ). f ∷ []) (sym (whole l (sym q ∙ o ∙ sym h)))))
         (pick-by (λ (r : Asked). Bad ≡ r) (eqb (getD l 0 0) 114) Bad _ refl
         (pick-by (λ (r : Asked). Bad ≡ r) (eqb (getD l 0 0) 119) Bad _ refl
         (pick-by (λ (r : Asked). Bad ≡ r) (k && eqb (getD l 0 0) 108) Bad Bad refl refl))
         ∙ sym (kind-one k []))
-      where
-        whole : upTo 32 l ≡ l
-        whole = sym (upTo-take 32 l) ∙ take-all (length (upTo 32 l)) l (omega arith)
 
     pub kind-more : (k : Bool) → (length l ≡ 1 → ⊥) → (r : Asked) → r ≡ kindNext k (getD l 0 0) (fieldsOf (take (length l - 2) (drop 2 l)))
         → r ≡ kindFirst k (fieldsOf l)

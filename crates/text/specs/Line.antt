@@ -1,6 +1,6 @@
 -- What a line of a trace, or of explain, asks for (01, Values to check; docs/DECISIONS.md, D-30, D-42). A line is given without its newline.
 use Prim.Native.Nat.{ℕ, _+_, _-_, _*_}
-use mathlib.Core.Bool.{Bool, false, _&&_}
+use mathlib.Core.Bool.{Bool, _&&_}
 use mathlib.Core.List.{List, [], _∷_}
 use lib.Dec.{eqb, ltb, leb}
 use lib.ListN.{length}

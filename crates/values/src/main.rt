@@ -2,7 +2,7 @@
 // model itself. What it writes is held to the file `stdout`, whose lines were compared with 01 by hand.
 //
 // An opening's line: panel, bytes of memory, words of picture -> status, and the panel and memory that the state records.
-// An access's line has the trace program's form (r, w or l, target, offset, enables, word) -> status, word, known mask, changed count.
+// An access's line: r, w or l, target, offset, enables, for w a word -> status, word, known mask, changed count.
 mod say; // say.rt: a line for an opening, and one for an access
 mod cases; // cases.rt: openings and accesses on lent buffers
 mod limits; // limits.rt: width, height and memory

@@ -2,6 +2,7 @@
 -- By the kind. Assumes nothing.
 use mathlib.Core.Bool.{true, false}
 use mathlib.Core.Path.{_≡_, refl, ap}
+use Rattle.bits.proofs.Cases.{byTest}
 use Rattle.bits.proofs.Bools.{clash}
 use Rattle.chip.specs.declared.Access.{Access}
 use Rattle.chip.specs.declared.Kind.{Kind}
@@ -61,27 +62,15 @@ pub write-looks-not : (a : Access) → isWrite a ≡ true → isLook a ≡ false
 unfolding isLook
 write-looks-not a e = ap looking (is-write a e)
 
--- no write: the two ways of saying it
+-- no write, and no look: the two ways of saying it
 pub is-no-write : (a : Access) → isWrite a ≡ false → a .kind ≡ Write → ⊥
 is-no-write a e w = clash (isWrite a) (write-is a w) e
 
 pub no-write-is : (a : Access) → (a .kind ≡ Write → ⊥) → isWrite a ≡ false
-unfolding isWrite
-no-write-is a f = unwritten (a .kind) f
-  where
-    unwritten : (k : Kind) → (k ≡ Write → ⊥) → writing k ≡ false
-    unwritten Read f = refl
-    unwritten Write f = absurd (f refl)
-    unwritten Look f = refl
+no-write-is a f = byTest (isWrite a) (λ e. absurd (f (is-write a e))) (λ e. e)
 
 pub is-no-look : (a : Access) → isLook a ≡ false → a .kind ≡ Look → ⊥
 is-no-look a e k = clash (isLook a) (look-is a k) e
 
 pub no-look-is : (a : Access) → (a .kind ≡ Look → ⊥) → isLook a ≡ false
-unfolding isLook
-no-look-is a f = unlooked (a .kind) f
-  where
-    unlooked : (k : Kind) → (k ≡ Look → ⊥) → looking k ≡ false
-    unlooked Read f = refl
-    unlooked Write f = refl
-    unlooked Look f = absurd (f refl)
+no-look-is a f = byTest (isLook a) (λ e. absurd (f (is-look a e))) (λ e. e)

@@ -3,6 +3,7 @@ use crate::complain::complain_why;
 use crate::explain::say_access;
 use crate::say::say;
 use chip::Access;
+use chip::Dac;
 use chip::Kind;
 use chip::State;
 use text::Asked;
@@ -40,10 +41,10 @@ fn say_bad(words: bool) {
     }
 }
 
-// An access's answer, in the trace's form or in words; s is the state before it.
-fn answer(s: State, words: bool, a: Access, status: u32, shown: u32, known: u32, changed: u32) {
+// An access's answer, in the trace's form or in words; d is the palette's pointer before it.
+fn answer(d: Dac, words: bool, a: Access, status: u32, shown: u32, known: u32, changed: u32) {
     if words {
-        say_access(s.dac, a, status, shown, known, changed);
+        say_access(d, a, status, shown, known, changed);
     } else {
         say_answer(status, shown, known, changed);
     }
@@ -51,19 +52,19 @@ fn answer(s: State, words: bool, a: Access, status: u32, shown: u32, known: u32,
 
 fn do_read(s: State, words: bool, a: Access, memory: &[u8], picture: &[u32]) -> State {
     let r = model::read::read(s, a.target, a.offset, a.enables, memory, picture);
-    answer(s, words, a, r.status, r.word, r.known, r.changed);
+    answer(s.dac, words, a, r.status, r.word, r.known, r.changed);
     r.state
 }
 
 fn do_write(s: State, words: bool, a: Access, memory: &mut [u8], picture: &mut [u32]) -> State {
     let r = model::write::write(s, a.target, a.offset, a.enables, a.word, memory, picture);
-    answer(s, words, a, r.status, r.word, r.known, r.changed);
+    answer(s.dac, words, a, r.status, r.word, r.known, r.changed);
     r.state
 }
 
 fn do_look(s: State, words: bool, a: Access, memory: &[u8], picture: &[u32]) {
     let r = model::look::look(s, a.target, a.offset, a.enables, memory, picture);
-    answer(s, words, a, r.status, r.word, r.known, r.changed);
+    answer(s.dac, words, a, r.status, r.word, r.known, r.changed);
 }
 
 fn do_access(s: State, words: bool, a: Access, memory: &mut [u8], picture: &mut [u32]) -> State {

@@ -85,13 +85,13 @@ static int is_state(const struct pm_state *s) {
         if (i == PM_ROW_CFG_SUBSYSTEM) may = half_bits(s->once);
         bad |= (((v ^ row_reset[i]) | (k ^ row_known[i])) & ~may) | ((v | row_known[i]) & ~k);
     }
-    uint8_t bad_bytes = 0;
-    const struct pm_palette *p = &s->palette;
+    /* with the flag turned over, 0 and every stored colour are at most 01000000h, and no other word is */
+    uint32_t most = 0;
     for (unsigned i = 0; i < PM_ENTRIES; i++) {
-        uint8_t flag = p->stored[i];
-        bad_bytes |= (uint8_t)((flag >> 1) | ((p->red[i] | p->green[i] | p->blue[i]) & (uint8_t)(flag - 1)));
+        uint32_t turned = s->palette[i] ^ PM_DOT_COLOUR;
+        most = turned > most ? turned : most;
     }
-    return (bad | bad_bytes) == 0;
+    return bad == 0 && most <= PM_DOT_COLOUR;
 }
 
 /* ---- the picture (01, The picture) ---- */
@@ -116,13 +116,11 @@ static struct view view_of(const struct pm_state *s) {
     return v;
 }
 
-static uint32_t entry_word(const struct pm_palette *p, unsigned e) {
-    if (!p->stored[e]) return PM_DOT_NEVER;
-    return PM_DOT_COLOUR | (uint32_t)p->red[e] << 16 | (uint32_t)p->green[e] << 8 | p->blue[e];
-}
+/* the word of an entry's dots is the entry's own, once it was stored */
+static uint32_t entry_word(const uint32_t *palette, unsigned e) { return palette[e] ? palette[e] : PM_DOT_NEVER; }
 
-static void table_of(uint32_t *table, const struct pm_palette *p, uint8_t mask) {
-    for (unsigned b = 0; b < 256; b++) table[b] = entry_word(p, b & mask);
+static void table_of(uint32_t *table, const uint32_t *palette, uint8_t mask) {
+    for (unsigned b = 0; b < 256; b++) table[b] = entry_word(palette, b & mask);
 }
 
 /* how many of the dots of a row, whose bytes start at a place, lie in memory */
@@ -171,8 +169,8 @@ static uint32_t draw_line(uint32_t *dots, size_t width, struct line a, struct li
 static uint32_t redraw(const struct pm_state *s, struct view from, struct view to, const uint8_t *memory, uint32_t *picture) {
     if (from.fixed ? from.fixed == to.fixed : !to.fixed && from.base == to.base && from.stride == to.stride && from.mask == to.mask) return 0;
     uint32_t t0[256], t1[256];
-    if (!from.fixed) table_of(t0, &s->palette, from.mask);
-    if (!to.fixed) table_of(t1, &s->palette, to.mask);
+    if (!from.fixed) table_of(t0, s->palette, from.mask);
+    if (!to.fixed) table_of(t1, s->palette, to.mask);
     uint32_t changed = 0;
     for (uint64_t y = 0; y < s->height; y++)
         changed += draw_line(picture + y * s->width, s->width, line_of(&from, t0, y, s->width, memory, s->fitted),
@@ -241,7 +239,7 @@ static uint32_t write_memory(const struct pm_state *s, const struct asked *a, un
         uint8_t old = memory[at], new = (uint8_t)(a->word >> 8 * lane);
         memory[at] = new;
         if (v.fixed || at < v.base) continue;
-        uint32_t before = entry_word(&s->palette, old & v.mask), after = entry_word(&s->palette, new & v.mask);
+        uint32_t before = entry_word(s->palette, old & v.mask), after = entry_word(s->palette, new & v.mask);
         if (!apart)
             changed += redraw_byte(s, &v, at, before, after, picture);
         else if (x + i < s->width && y < s->height)
@@ -302,10 +300,9 @@ static struct plain_answer register_seen(const struct pm_state *s, unsigned row,
 
 static struct plain_answer data_seen(const struct pm_state *s, uint32_t enables) {
     const struct pm_dac *d = &s->dac;
-    const struct pm_palette *p = &s->palette;
     if (d->known != 0xFF) return refused(PM_NOTHING_HERE);
-    uint8_t e = d->address, v = d->component == 0 ? p->red[e] : d->component == 1 ? p->green[e] : p->blue[e];
-    return seen(s->values[PM_ROW_RD_MISC_CONTROL] & 2 ? v : v / 4u, p->stored[e] ? 0xFF : 0, enables);
+    uint32_t w = s->palette[d->address], v = w >> 8 * (2 - d->component) & 0xFF;
+    return seen(s->values[PM_ROW_RD_MISC_CONTROL] & 2 ? v : v / 4, w ? 0xFF : 0, enables);
 }
 
 static struct plain_answer region_seen(const struct pm_state *s, const struct asked *a) {
@@ -403,7 +400,6 @@ static struct plain_answer write_header(struct pm_state *s, const struct asked *
 
 static struct plain_answer write_data(struct pm_state *s, const struct asked *a, const uint8_t *memory, uint32_t *picture) {
     struct pm_dac *d = &s->dac;
-    struct pm_palette *p = &s->palette;
     if (d->known != 0xFF) return refused(PM_NOTHING_HERE);
     if (!(a->enables & 1)) return written(0);
     unsigned e = d->address;
@@ -414,13 +410,9 @@ static struct plain_answer write_data(struct pm_state *s, const struct asked *a,
     } else if (d->component == 1 && d->staged == 1) {
         advance(d, 2, d->red, v);
     } else if (d->component == 2 && d->staged == 2) {
-        uint32_t before = entry_word(p, e);
-        p->red[e] = d->red;
-        p->green[e] = d->green;
-        p->blue[e] = v;
-        p->stored[e] = 1;
+        uint32_t before = s->palette[e], after = PM_DOT_COLOUR | (uint32_t)d->red << 16 | (uint32_t)d->green << 8 | v;
+        s->palette[e] = after;
         advance(d, 0, 0, 0);
-        uint32_t after = entry_word(p, e);
         if (before != after) return written(redraw_entry(s, e, after, memory, picture));
     } else {
         advance(d, 0, 0, 0);

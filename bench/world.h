@@ -20,8 +20,8 @@ struct world {
     size_t memory_length, picture_length;
 };
 
-/* the state's bytes but the two after the palette, which mean nothing */
-#define STATE_BYTES (offsetof(struct pm_state, palette) + sizeof(struct pm_palette))
+/* the state's bytes but the last two, which mean nothing */
+#define STATE_BYTES (offsetof(struct pm_state, dac) + sizeof(struct pm_dac))
 
 static inline uint32_t open_proved(struct world *w, uint32_t width, uint32_t height) {
     struct pm_opened r = pm_open(width, height, w->memory, w->memory_length, w->picture, w->picture_length);

@@ -166,14 +166,7 @@ struct pm_dac {
     uint8_t green;     /* .. and green, as they will be stored */
 };
 
-/* The stored components are eight bits each, whichever width the palette was loaded in: w, written with six bits, is stored as 4 * w + w / 16, so 63 as 255. */
-struct pm_palette {
-    uint8_t red[256];
-    uint8_t green[256];
-    uint8_t blue[256];
-    uint8_t stored[256]; /* 1: this entry was stored; 0: it never was, and its components are 0 and mean nothing */
-};
-
+/* The components of an entry are eight bits each, whichever width the palette was loaded in: w, written with six bits, is stored as 4 * w + w / 16, so 63 as 255. */
 struct pm_state {
     uint32_t width;         /* the panel in dots, as given at opening .. */
     uint32_t height;
@@ -181,8 +174,8 @@ struct pm_state {
     uint32_t once;          /* write-once numbers that are fixed: bit 0 the subsystem vendor, bit 1 the subsystem ID */
     uint32_t values[79];    /* what each register holds, by enum pm_row; 0 wherever it is unknown .. */
     uint32_t knowns[79];    /* .. and which of its bits are known */
+    uint32_t palette[256];  /* each entry: 01RRGGBBh, the word of its dots, or 0 if it was never stored. Any other top byte, and a colour without the 01h, is not a state */
     struct pm_dac dac;
-    struct pm_palette palette; /* starts two bytes before a multiple of four: it is bytes only */
     /* two bytes follow that mean nothing and may differ in equal states: compare fields, not bytes */
 };
 
@@ -253,12 +246,6 @@ PM_ASSERT(offsetof(struct pm_dac, staged) == 3);
 PM_ASSERT(offsetof(struct pm_dac, red) == 4);
 PM_ASSERT(offsetof(struct pm_dac, green) == 5);
 
-PM_ASSERT(sizeof(struct pm_palette) == 1024 && PM_ALIGN(struct pm_palette) == 1);
-PM_ASSERT(offsetof(struct pm_palette, red) == 0);
-PM_ASSERT(offsetof(struct pm_palette, green) == 256);
-PM_ASSERT(offsetof(struct pm_palette, blue) == 512);
-PM_ASSERT(offsetof(struct pm_palette, stored) == 768);
-
 PM_ASSERT(sizeof(struct pm_state) == 1680 && PM_ALIGN(struct pm_state) == 4);
 PM_ASSERT(offsetof(struct pm_state, width) == 0);
 PM_ASSERT(offsetof(struct pm_state, height) == 4);
@@ -266,8 +253,8 @@ PM_ASSERT(offsetof(struct pm_state, fitted) == 8);
 PM_ASSERT(offsetof(struct pm_state, once) == 12);
 PM_ASSERT(offsetof(struct pm_state, values) == 16);
 PM_ASSERT(offsetof(struct pm_state, knowns) == 332);
-PM_ASSERT(offsetof(struct pm_state, dac) == 648);
-PM_ASSERT(offsetof(struct pm_state, palette) == 654);
+PM_ASSERT(offsetof(struct pm_state, palette) == 648);
+PM_ASSERT(offsetof(struct pm_state, dac) == 1672);
 
 PM_ASSERT(sizeof(struct pm_answer) == 1696 && PM_ALIGN(struct pm_answer) == 4);
 PM_ASSERT(offsetof(struct pm_answer, status) == 0);

@@ -6,7 +6,8 @@ use std::fmt::Debug;
 
 use crate::bits::lanes;
 use crate::model::{Act, Answer, Asked, At, Model, Seen, DONE};
-use crate::state::{Entry, State};
+use crate::palette::ENTRIES;
+use crate::state::State;
 
 /// Offset of a register in region 0 to the word held there.
 fn word_at(state: &State, offset: u32) -> (u32, u32) {
@@ -20,6 +21,21 @@ fn word_at(state: &State, offset: u32) -> (u32, u32) {
 
 /// The whole picture by the five rules.
 pub fn draw(state: &State, memory: &[u8]) -> Vec<u32> {
+    draw_with(&state.palette.map(dot), state, memory)
+}
+
+/// The word of a dot that shows an entry, by the last two rules: the entry's own,
+/// if it was ever stored.
+fn dot(entry: u32) -> u32 {
+    match entry.to_be_bytes() {
+        [1, ..] => entry,
+        _ => 0x0400_0000,
+    }
+}
+
+/// The same with a word of a dot for every entry; the state's palette is not
+/// looked at.
+pub fn draw_with(entries: &[u32; ENTRIES], state: &State, memory: &[u8]) -> Vec<u32> {
     let dots = state.width as usize * state.height as usize;
     if state.indirect[0x18].value & 0x1f != 0x10 {
         return vec![0x0300_0000; dots];
@@ -33,26 +49,18 @@ pub fn draw(state: &State, memory: &[u8]) -> Vec<u32> {
     {
         return vec![0x0500_0000; dots];
     }
-    let colours: Vec<u32> = state.palette.iter().map(colour).collect();
     let mut picture = Vec::with_capacity(dots);
     let mut row = u64::from(base) << 3;
     for _ in 0..state.height {
         for place in row..row + u64::from(state.width) {
             match memory.get(place as usize) {
-                Some(byte) => picture.push(colours[(u32::from(*byte) & mask) as usize]),
+                Some(byte) => picture.push(entries[(u32::from(*byte) & mask) as usize]),
                 None => picture.push(0x0200_0000),
             }
         }
         row += u64::from(stride) << 3;
     }
     picture
-}
-
-fn colour(entry: &Entry) -> u32 {
-    match (entry.stored, entry.components) {
-        (true, [red, green, blue]) => u32::from_be_bytes([1, red, green, blue]),
-        (false, _) => 0x0400_0000,
-    }
 }
 
 /// State, memory and picture, as they were.

@@ -6,11 +6,13 @@
 mod bits;
 mod breaks;
 mod check;
+mod columns;
 mod explain;
 mod generate;
 mod model;
 mod net;
 mod offsets;
+mod palette;
 mod picture;
 mod ppm;
 mod rng;

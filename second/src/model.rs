@@ -15,8 +15,9 @@ use crate::offsets::{
     APERTURE_ONE_CONTROL, APERTURE_TWO_CONTROL, BYPASS_WRITE_MASK, INDEXED_DATA, PALETTE_DATA,
     PALETTE_READ_ADDRESS, PALETTE_WRITE_ADDRESS,
 };
+use crate::palette::{self, COLOURS, ENTRIES, FLAG, NEVER};
 use crate::picture::UNDRAWN;
-use crate::state::{memory_fits, side_fits, Entry, Stage, State};
+use crate::state::{memory_fits, side_fits, Stage, State};
 use crate::tables::{Kind, Tables, MISC_CONTROL, SUBSYSTEM};
 
 pub const DONE: u32 = 0;
@@ -164,7 +165,7 @@ impl Model {
     ) -> (u32, State) {
         let status = self.opening_refusal(width, height, memory.len(), picture.len());
         if status != DONE {
-            return (status, State::reset(&self.tables, 0, 0, 0));
+            return (status, self.reset(0, 0, 0));
         }
         picture.fill(UNDRAWN);
         if self.is(Rule::OpenPictureZero) {
@@ -173,10 +174,19 @@ impl Model {
         if self.is(Rule::OpenClearsMemory) {
             memory.fill(0);
         }
-        (
-            DONE,
-            State::reset(&self.tables, width, height, memory.len() as u32),
-        )
+        (DONE, self.reset(width, height, memory.len() as u32))
+    }
+
+    /// The reset state.
+    fn reset(&self, width: u32, height: u32, memory_bytes: u32) -> State {
+        let mut state = State::reset(&self.tables, width, height, memory_bytes);
+        let word = if self.is(Rule::OpenBlack) {
+            FLAG
+        } else {
+            NEVER
+        };
+        state.palette = [palette::kept(word, &self.broken); ENTRIES];
+        state
     }
 
     fn opening_refusal(&self, width: u32, height: u32, memory: usize, picture: usize) -> u32 {
@@ -213,7 +223,7 @@ impl Model {
         let at = self.cut(lent);
         let status = self.refusal(state, memory, picture, &at, Act::Read);
         let seen = if status != DONE {
-            self.drop_by_refusal(state);
+            self.spoil_by_refusal(state, status);
             self.refused(status, &at, Act::Read)
         } else if self.is(Rule::ReadAnswersNext) {
             self.step(state, &at);
@@ -249,7 +259,7 @@ impl Model {
             changed: 0,
         };
         if answer.status != DONE {
-            self.drop_by_refusal(state);
+            self.spoil_by_refusal(state, answer.status);
             return answer;
         }
         let before = self.words(state, memory);
@@ -357,9 +367,17 @@ impl Model {
         at
     }
 
-    fn drop_by_refusal(&self, state: &mut State) {
+    /// What breaks let a refused read or write alter.
+    fn spoil_by_refusal(&self, state: &mut State, status: u32) {
         if self.is(Rule::StageDroppedByRefusal) {
             state.stage = Stage::Empty;
+        }
+        if self.is(Rule::EntryMended) && status == NOT_A_STATE {
+            for word in &mut state.palette {
+                if !palette::fits(*word, &self.broken) {
+                    *word = NEVER;
+                }
+            }
         }
     }
 
@@ -419,35 +437,72 @@ impl Model {
     /// The number of the first refusal that holds, or 0. A look is refused as
     /// the read; only breaks tell them apart.
     fn refusal(&self, state: &State, memory: &[u8], picture: &[u32], at: &At, act: Act) -> u32 {
-        let dots = u64::from(state.width) * u64::from(state.height);
-        let mut wrong_length =
-            picture.len() as u64 != dots || memory.len() as u64 != u64::from(state.memory_bytes);
-        if self.is(Rule::LengthIgnored) {
-            wrong_length &= (picture.len() as u64) < dots;
-        }
-        if self.is(Rule::ReadAnyLength) && act == Act::Read
-            || self.is(Rule::LookAnyLength) && act == Act::Look
-        {
-            wrong_length = memory.len() as u64 != u64::from(state.memory_bytes);
-        }
+        let wrong_length = self.wrong_length(state, memory, picture, act);
         if self.is(Rule::TwoBeforeOne) && wrong_length {
             return WRONG_LENGTH;
         }
         let unasked = self.is(Rule::LookAnyState) && act == Act::Look;
-        if !state.is_state(&self.tables, &self.broken) && !unasked {
+        if !state.rest_fits(&self.tables, &self.broken) && !unasked {
             return NOT_A_STATE;
         }
-
-        let no_target = at.target > 3 || at.enables > 15;
-        let mut not_aligned = at.offset % 4 != 0;
-        if self.is(Rule::OffsetEven) {
-            not_aligned = at.offset % 2 != 0;
+        let wrong_entry = !unasked && self.wrong_entry(state, memory, at, act);
+        let later = self.is(Rule::EntryAfterTwo) || self.is(Rule::EntryAfterSeven);
+        if wrong_entry && !later {
+            return NOT_A_STATE;
         }
-        if self.is(Rule::ThreeBeforeTwo) && no_target {
+        if self.is(Rule::ThreeBeforeTwo) && (at.target > 3 || at.enables > 15) {
             return NO_TARGET;
         }
         if wrong_length {
             return WRONG_LENGTH;
+        }
+        if wrong_entry && self.is(Rule::EntryAfterTwo) {
+            return NOT_A_STATE;
+        }
+        match self.refusal_from_three(state, at, act) {
+            DONE if wrong_entry => NOT_A_STATE,
+            status => status,
+        }
+    }
+
+    /// Refusal 2.
+    fn wrong_length(&self, state: &State, memory: &[u8], picture: &[u32], act: Act) -> bool {
+        let dots = u64::from(state.width) * u64::from(state.height);
+        let memory_wrong = memory.len() as u64 != u64::from(state.memory_bytes);
+        if self.is(Rule::ReadAnyLength) && act == Act::Read
+            || self.is(Rule::LookAnyLength) && act == Act::Look
+        {
+            return memory_wrong;
+        }
+        let picture_wrong = picture.len() as u64 != dots;
+        if self.is(Rule::LengthIgnored) {
+            return (picture_wrong || memory_wrong) && (picture.len() as u64) < dots;
+        }
+        picture_wrong || memory_wrong
+    }
+
+    /// What refusal 1 says of the palette. Only breaks ask what the access is.
+    fn wrong_entry(&self, state: &State, memory: &[u8], at: &At, act: Act) -> bool {
+        if self.is(Rule::EntryUnasked)
+            || self.is(Rule::EntryUnlooked) && act == Act::Look
+            || self.is(Rule::EntryWritesOnly) && act != Act::Write
+            || self.is(Rule::EntryDataOnly) && !at.is_register(PALETTE_DATA)
+        {
+            return false;
+        }
+        if self.is(Rule::EntryShownOnly) {
+            let mut shown = memory.iter().map(|byte| state.palette[usize::from(*byte)]);
+            return shown.any(|word| !palette::fits(word, &self.broken));
+        }
+        !state.palette_fits(&self.broken)
+    }
+
+    /// Refusals 3 to 7.
+    fn refusal_from_three(&self, state: &State, at: &At, act: Act) -> u32 {
+        let no_target = at.target > 3 || at.enables > 15;
+        let mut not_aligned = at.offset % 4 != 0;
+        if self.is(Rule::OffsetEven) {
+            not_aligned = at.offset % 2 != 0;
         }
         let four_first = self.is(Rule::FourBeforeThree)
             || self.is(Rule::LookFourBeforeThree) && act == Act::Look;
@@ -943,10 +998,45 @@ impl Model {
         usize::from(state.address)
     }
 
+    /// The word of an entry.
+    pub fn entry_word(&self, state: &State, number: usize) -> u32 {
+        palette::meant(state.palette[number], &self.broken)
+    }
+
+    fn keep_entry(&self, state: &mut State, number: usize, word: u32) {
+        state.palette[number] = palette::kept(word, &self.broken);
+    }
+
     /// The component that is next.
     fn palette_shown(&self, state: &State, act: Act) -> Bits {
         let look = act == Act::Look;
-        let entry = state.palette[self.entry_number(state)];
+        let entry = self.entry_word(state, self.entry_number(state));
+        let six = !self.eight_bits(state);
+        if self.counts_as_stored(entry) {
+            let taken = self.byte_taken(entry, self.component_shown(state, act), six);
+            let whole = !six || self.is(Rule::LookEightBits) && look;
+            let byte = if whole {
+                taken
+            } else {
+                self.narrowed(state, taken)
+            };
+            if self.is(Rule::ReadZeroUnknown) && taken == 0 {
+                return Bits::unknown();
+            }
+            let six_only = self.is(Rule::SixBitTopUnknown) && six;
+            Bits::new(u32::from(byte), if six_only { 0x3f } else { 0xff })
+        } else if self.is(Rule::NeverStoredReadsZero) || self.is(Rule::LookNeverStored) && look {
+            Bits::new(0, 0xff)
+        } else if self.is(Rule::NeverStoredSixBits) && six {
+            Bits::new(0, 0xc0)
+        } else {
+            Bits::unknown()
+        }
+    }
+
+    /// The number of the component that palette data shows.
+    fn component_shown(&self, state: &State, act: Act) -> usize {
+        let look = act == Act::Look;
         let mut component = usize::from(state.component);
         if self.is(Rule::LookRedOnly) && look {
             component = 0;
@@ -957,24 +1047,18 @@ impl Model {
         if self.is(Rule::ComponentsReversed) {
             component = 2 - component;
         }
-        let stored = self.counts_as_stored(&entry);
-        if stored {
-            let whole = self.eight_bits(state) || self.is(Rule::LookEightBits) && look;
-            let byte = entry.components[component];
-            let byte = if whole {
-                byte
-            } else {
-                self.narrowed(state, byte)
-            };
-            let six_only = self.is(Rule::SixBitTopUnknown) && !self.eight_bits(state);
-            Bits::new(u32::from(byte), if six_only { 0x3f } else { 0xff })
-        } else if self.is(Rule::NeverStoredReadsZero) || self.is(Rule::LookNeverStored) && look {
-            Bits::new(0, 0xff)
-        } else if self.is(Rule::NeverStoredSixBits) && !self.eight_bits(state) {
-            Bits::new(0, 0xc0)
-        } else {
-            Bits::unknown()
+        component
+    }
+
+    /// The byte of a stored entry's word for a component.
+    fn byte_taken(&self, entry: u32, component: usize, six: bool) -> u8 {
+        if self.is(Rule::ReadByteAbove) {
+            return byte_of(entry, 3 - component as u32);
         }
+        if self.is(Rule::SixBitNextByte) && six {
+            return palette::component(entry, (component + 1) % 3);
+        }
+        palette::component(entry, component)
     }
 
     /// What a palette data read alters.
@@ -996,30 +1080,63 @@ impl Model {
         if self.is(Rule::UnknownAddressServed) {
             state.address_known = 0xff;
         }
-        let number = self.entry_number(state);
-        let mut staged = self.widened(state, byte);
+        let staged = self.staged(state, byte);
+        if self.is(Rule::ShowsAtOnce) {
+            self.put_component(state, staged, FLAG);
+            self.advance(state, true);
+            return;
+        }
+        if self.is(Rule::StorePieces) {
+            self.put_component(state, staged, 0);
+        }
+        if self.is(Rule::StoreBegins) && state.component == 0 {
+            self.keep_entry(state, self.entry_number(state), NEVER);
+        }
+        let stored = self.stage_next(state, staged);
+        if self.is(Rule::UnstoredNoAdvance) && state.component == 2 && stored.is_none() {
+            state.component = 0;
+            return;
+        }
+        if self.is(Rule::AdvanceBeforeStore) {
+            self.advance(state, true);
+        }
+        if let Some(components) = stored {
+            self.store(state, components);
+        }
+        if !self.is(Rule::AdvanceBeforeStore) {
+            self.advance(state, true);
+        }
+    }
+
+    /// The byte to stage for a byte written.
+    fn staged(&self, state: &State, byte: u8) -> u8 {
         if self.is(Rule::WidthAtThird) {
-            staged = byte;
+            return byte;
         }
         if self.is(Rule::WidthAtFirst) {
             if state.component == 0 {
                 self.first_was_eight.set(self.eight_bits(state));
+            } else if self.first_was_eight.get() {
+                return byte;
             } else {
-                staged = if self.first_was_eight.get() {
-                    byte
-                } else {
-                    self.six_stored(byte)
-                };
+                return self.six_stored(byte);
             }
         }
-        if self.is(Rule::ShowsAtOnce) {
-            let entry = &mut state.palette[number];
-            entry.stored = true;
-            entry.components[usize::from(state.component)] = staged;
-            self.advance(state, true);
-            return;
-        }
+        self.widened(state, byte)
+    }
 
+    /// Breaks put one component into the entry's word, and a flag.
+    fn put_component(&self, state: &mut State, byte: u8, flag: u32) {
+        let number = self.entry_number(state);
+        let entry = self.entry_word(state, number);
+        let mut components = palette::components(entry);
+        components[usize::from(state.component)] = byte;
+        let word = palette::recoloured(entry, components) | flag;
+        self.keep_entry(state, number, word);
+    }
+
+    /// Puts a component into the stage. Gives the three that are to be stored.
+    fn stage_next(&self, state: &mut State, staged: u8) -> Option<[u8; 3]> {
         let mut stored = None;
         state.stage = match (state.component, state.stage) {
             (0, _) => Stage::Red(staged),
@@ -1035,51 +1152,65 @@ impl Model {
                 Stage::Empty
             }
             (2, other) if self.is(Rule::MixedOrderStores) => {
-                let old = state.palette[number].components;
+                let entry = self.entry_word(state, self.entry_number(state));
+                let [old_red, green, _] = palette::components(entry);
                 let red = if let Stage::Red(red) = other {
                     red
                 } else {
-                    old[0]
+                    old_red
                 };
-                stored = Some([red, old[1], staged]);
+                stored = Some([red, green, staged]);
                 Stage::Empty
             }
             _ => Stage::Empty,
         };
-        if self.is(Rule::UnstoredNoAdvance) && state.component == 2 && stored.is_none() {
-            state.component = 0;
-            return;
+        stored
+    }
+
+    /// Stores three components as the entry's word.
+    fn store(&self, state: &mut State, components: [u8; 3]) {
+        let mut components = components;
+        if self.is(Rule::WidthAtThird) {
+            components = components.map(|c| self.widened(state, c));
         }
-        if self.is(Rule::AdvanceBeforeStore) {
-            self.advance(state, true);
+        if self.is(Rule::SixBitFilledAtThird) && !self.eight_bits(state) {
+            components = components.map(|c| c / 4 * 4 + c / 64);
         }
-        if let Some(mut components) = stored {
-            if self.is(Rule::WidthAtThird) {
-                components = components.map(|c| self.widened(state, c));
-            }
-            if self.is(Rule::SixBitFilledAtThird) && !self.eight_bits(state) {
-                components = components.map(|c| c / 4 * 4 + c / 64);
-            }
-            if self.is(Rule::ComponentsReversed) {
-                components.reverse();
-            }
-            let number = self.entry_number(state);
-            state.palette[number] = Entry {
-                stored: true,
-                components,
-            };
+        if self.is(Rule::ComponentsReversed) {
+            components.reverse();
         }
-        if !self.is(Rule::AdvanceBeforeStore) {
-            self.advance(state, true);
+        let number = self.entry_number(state);
+        let old = self.entry_word(state, number);
+        let word = self.left_by_store(number, old, palette::entry(components));
+        self.keep_entry(state, number, word);
+    }
+
+    /// The word that a store leaves: the new one, whatever the old one was.
+    fn left_by_store(&self, number: usize, old: u32, new: u32) -> u32 {
+        let was_stored = palette::is_stored(old);
+        let Break::Rule(rule) = self.broken else {
+            return new;
+        };
+        match rule {
+            Rule::StoreBlackZero if new == FLAG => NEVER,
+            Rule::StoreBlackSkipped if new == FLAG => old,
+            Rule::StoreWhiteBare if new == FLAG | COLOURS => COLOURS,
+            Rule::StoreToggles if was_stored => new ^ FLAG,
+            Rule::StoreOrs => old | new,
+            Rule::StoreKeepsRed => new & 0xff00_ffff | old & 0x00ff_0000,
+            Rule::StoreNoGreen => new & 0xffff_00ff,
+            Rule::StoreOnce if was_stored => old,
+            Rule::StoreLastLost if number == 255 => old,
+            _ => new,
         }
     }
 
     /// Whether an entry counts as stored.
-    pub fn counts_as_stored(&self, entry: &Entry) -> bool {
-        if self.is(Rule::BlackNeverStored) && entry.components == [0; 3] {
+    pub fn counts_as_stored(&self, entry: u32) -> bool {
+        if self.is(Rule::BlackNeverStored) && entry & COLOURS == 0 {
             return false;
         }
-        entry.stored || self.is(Rule::NeverStoredBlack)
+        palette::is_stored(entry) || self.is(Rule::NeverStoredBlack)
     }
 
     // ----- indexed data -----
@@ -1121,8 +1252,9 @@ impl Model {
         held.value = held.value & !writable | u32::from(byte) & writable;
         held.known |= writable;
         if self.is(Rule::WidthChangeAlters) && was_eight && !self.eight_bits(state) {
-            for entry in &mut state.palette {
-                entry.components = entry.components.map(|c| self.six_stored(c / 4));
+            for word in &mut state.palette {
+                let cut = palette::components(*word).map(|c| self.six_stored(c / 4));
+                *word = palette::recoloured(*word, cut);
             }
         }
         if self.is(Rule::IndexedDropsStage) {

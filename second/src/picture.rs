@@ -6,6 +6,7 @@ use crate::offsets::{
     APERTURE_ONE_CONTROL, INDEXED_DATA, PALETTE_DATA, PIXEL_MASK, SCREEN_BASE, SCREEN_BASE_RIGHT,
     SCREEN_STRIDE, VIDEO_CONTROL,
 };
+use crate::palette::{self, COLOURS, FLAG};
 use crate::state::State;
 use crate::tables::{COLOR_MODE, MISC_CONTROL, PALETTE_PAGE};
 
@@ -17,8 +18,8 @@ pub const UNKNOWN: u32 = 0x0500_0000;
 pub const BEYOND: u32 = 0x0200_0000;
 /// An entry never stored.
 pub const NEVER_STORED: u32 = 0x0400_0000;
-/// A colour; red, green and blue follow.
-pub const COLOUR: u32 = 0x0100_0000;
+/// A colour; red, green and blue follow. It is the word of a stored entry.
+pub const COLOUR: u32 = FLAG;
 
 /// A number of units of eight bytes.
 #[derive(Clone, Copy)]
@@ -160,7 +161,11 @@ impl Model {
             }
             return BEYOND;
         }
-        let byte = memory[place.0 as usize];
+        self.dot_of(view, state, memory[place.0 as usize])
+    }
+
+    /// The word of a dot that shows a byte of memory, by the last two rules.
+    fn dot_of(&self, view: &View, state: &State, byte: u8) -> u32 {
         let mut number = usize::from(byte & view.mask);
         if self.is(Rule::MaskOrs) {
             number = usize::from(byte | !view.mask);
@@ -168,20 +173,27 @@ impl Model {
         if self.is(Rule::PageUsed) {
             number |= state.indirect[PALETTE_PAGE].value as usize;
         }
-        let entry = state.palette[number];
-        let mut stored = self.counts_as_stored(&entry);
-        if self.is(Rule::MaskOnlyStored) {
-            stored = state.palette[usize::from(byte)].stored;
+        let entry = self.entry_word(state, number);
+        let stored = if self.is(Rule::MaskOnlyStored) {
+            palette::is_stored(self.entry_word(state, usize::from(byte)))
+        } else {
+            self.counts_as_stored(entry)
+        };
+        if stored {
+            self.drawn(state, entry)
+        } else if self.is(Rule::NeverStoredNumbered) {
+            NEVER_STORED | number as u32
+        } else if self.is(Rule::NeverDrawnZero) {
+            entry
+        } else {
+            NEVER_STORED
         }
-        if !stored {
-            let carried = if self.is(Rule::NeverStoredNumbered) {
-                number as u32
-            } else {
-                0
-            };
-            return NEVER_STORED | carried;
-        }
-        let mut components = entry.components;
+    }
+
+    /// The word of a dot whose entry counts as stored: that entry's, as it stands
+    /// (02, C-15).
+    fn drawn(&self, state: &State, entry: u32) -> u32 {
+        let mut components = palette::components(entry);
         let clear_rgb = state.indirect[COLOR_MODE].value & 0x20 == 0;
         if self.is(Rule::ComponentOrder) || self.is(Rule::BgrOrder) && clear_rgb {
             components.reverse();
@@ -192,8 +204,17 @@ impl Model {
         if self.is(Rule::SixBitPictureOnly) {
             components = components.map(|c| if c % 4 == 0 { c + c / 64 } else { c });
         }
-        let [red, green, blue] = components;
-        COLOUR | u32::from(red) << 16 | u32::from(green) << 8 | u32::from(blue)
+        let word = palette::recoloured(entry, components);
+        if self.is(Rule::DrawnBare) {
+            return word & COLOURS;
+        }
+        if self.is(Rule::DrawnBit25) {
+            return word & COLOURS | FLAG << 1;
+        }
+        if self.is(Rule::NeverStoredBlack) || self.is(Rule::MaskOnlyStored) {
+            return word | COLOUR;
+        }
+        word
     }
 
     /// The words of all dots, row after row.
@@ -225,7 +246,7 @@ impl Model {
         let mut changed = 0;
         let mut redrawn = 0;
         for (place, dot) in picture.iter_mut().enumerate().take(before.len()) {
-            let differs = before[place] != after[place];
+            let differs = self.differs(before[place], after[place]);
             let forced = self.is(Rule::RedrawAll) || self.is(Rule::RedrawWhenAny) && any;
             if self.is(Rule::FirstRowOnly) && place >= state.width as usize {
                 continue;
@@ -251,6 +272,14 @@ impl Model {
             changed = 0;
         }
         changed
+    }
+
+    /// Whether a dot is to be redrawn.
+    fn differs(&self, before: u32, after: u32) -> bool {
+        if self.is(Rule::BlackNoRedraw) && (before, after) == (NEVER_STORED, COLOUR) {
+            return false;
+        }
+        before != after
     }
 
     /// Whether a break leaves out the redrawing after this write.

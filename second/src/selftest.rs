@@ -1,5 +1,8 @@
 //! The program's own tests: the values that the documents give, the rules one
-//! by one, and random accesses on panels of many sizes.
+//! by one, and random accesses on panels of many sizes. Those of the palette's
+//! words are in `words`.
+
+mod words;
 
 use std::io::BufReader;
 
@@ -11,11 +14,42 @@ use crate::generate;
 use crate::model::{Answer, Asked, At, Model, Seen};
 use crate::ppm;
 use crate::rng::Rng;
-use crate::state::{Entry, Stage, State};
+use crate::state::{Stage, State};
 use crate::tables::Tables;
 use crate::trace::{self, Setup};
 
 type Test = fn(&mut Tests);
+
+/// A test with a seed, the number of a panel, and so many lines.
+type PanelTest = fn(&mut Tests, u64, u32, usize);
+
+/// The tests of the rules, one by one.
+const RULE_TESTS: &[(&str, Test)] = &[
+    ("values marked P", marked_values),
+    ("other values", other_values),
+    ("register fields", register_fields),
+    ("absent offsets", absent_offsets),
+    ("directions", directions),
+    ("header fields", header_fields),
+    ("subsystem numbers", subsystem),
+    ("indirect fields", indirect_fields),
+    ("address", address),
+    ("palette stage", palette_stage),
+    ("palette width", palette_width),
+    ("apertures", apertures),
+    ("lanes written and read back", lanes_both_ways),
+    ("lanes swapped twice", lanes_twice),
+    ("order of refusals", order_of_refusals),
+    ("picture rules", picture_rules),
+    ("picture places", picture_places),
+    ("altered pictures", altered_pictures),
+    ("openings", openings),
+    ("wrong lengths", wrong_lengths),
+    ("states", states),
+    ("trace program", trace_program),
+    ("bad lines", bad_lines),
+    ("picture files", picture_files),
+];
 
 /// The tests of looks, and of reads and writes apart (02, C-12).
 const LOOK_TESTS: &[(&str, Test)] = &[
@@ -31,62 +65,34 @@ const LOOK_TESTS: &[(&str, Test)] = &[
 
 /// Runs every test and gives back what was wrong.
 pub fn run(broken: Break, seed: u64, panels: u32, lines: usize) -> Vec<String> {
-    let rules: &[(&str, Test)] = &[
-        ("values marked P", marked_values),
-        ("other values", other_values),
-        ("register fields", register_fields),
-        ("absent offsets", absent_offsets),
-        ("directions", directions),
-        ("header fields", header_fields),
-        ("subsystem numbers", subsystem),
-        ("indirect fields", indirect_fields),
-        ("address", address),
-        ("palette stage", palette_stage),
-        ("palette width", palette_width),
-        ("apertures", apertures),
-        ("lanes written and read back", lanes_both_ways),
-        ("lanes swapped twice", lanes_twice),
-        ("order of refusals", order_of_refusals),
-        ("picture rules", picture_rules),
-        ("picture places", picture_places),
-        ("altered pictures", altered_pictures),
-        ("openings", openings),
-        ("wrong lengths", wrong_lengths),
-        ("states", states),
-        ("trace program", trace_program),
-        ("bad lines", bad_lines),
-        ("picture files", picture_files),
-    ];
     let mut list = Tests {
         broken,
         name: "",
         wrong: Vec::new(),
     };
-    for (name, test) in rules.iter().chain(LOOK_TESTS) {
+    for (name, test) in RULE_TESTS.iter().chain(LOOK_TESTS).chain(words::TESTS) {
         list.name = name;
         test(&mut list);
     }
     if broken == Break::Nothing {
+        let first = |first| RULES.iter().position(|r| r.0 == first).unwrap_or(0);
+        let (looks, words) = (first(Rule::LookIsRead), first(Rule::StoreBlackZero));
         list.name = "breaks of looks";
-        look_breaks(&mut list);
+        tried_breaks(&mut list, &RULES[looks..words], LOOK_TESTS);
+        list.name = "breaks of words";
+        tried_breaks(&mut list, &RULES[words..], words::TESTS);
     }
-    list.name = "random panels with looks";
-    for number in 0..panels {
-        look_panel(
-            &mut list,
-            seed.wrapping_add(u64::from(number)),
-            number,
-            lines,
-        );
-    }
-    list.name = "random panels";
-    for number in 0..panels {
-        random_panel(
-            &mut list,
-            seed.wrapping_add(u64::from(number)),
-            number,
-            lines,
-        );
+    let panel_tests: [(&str, PanelTest); 3] = [
+        ("random panels with looks", look_panel),
+        ("random panels in both layouts", words::layouts_panel),
+        ("random panels", random_panel),
+    ];
+    for (name, test) in panel_tests {
+        list.name = name;
+        for number in 0..panels {
+            let seed = seed.wrapping_add(u64::from(number));
+            test(&mut list, seed, number, lines);
+        }
     }
     list.wrong
 }
@@ -301,11 +307,7 @@ fn other_values(tests: &mut Tests) {
     // 01's last value as 02, C-13 amends it, with the two that stand beside it.
     let mut b = tests.usual();
     b.entry(7, [63, 0, 16]);
-    tests.equal(
-        "six-bit components stored",
-        b.state.palette[7].components,
-        [255, 0, 65],
-    );
+    tests.equal("six-bit components stored", b.state.palette[7], 0x01ff_0041);
     tests.equal(
         "six-bit components read",
         b.entry_read(7),
@@ -672,7 +674,7 @@ fn palette_stage(tests: &mut Tests) {
     for byte in [1, 2] {
         b.write(0, 0x4008, 1, byte);
     }
-    tests.equal("not yet", b.state.palette[9].stored, false);
+    tests.equal("not yet", b.state.palette[9], 0);
     b.write(0, 0x4008, 1, 3);
     tests.equal("next entry", b.read(0, 0x4000, 1), is(10));
     tests.equal("stored", b.entry_read(9), [is(1), is(2), is(3)]);
@@ -693,7 +695,7 @@ fn palette_stage(tests: &mut Tests) {
             for byte in 0..3 - staged {
                 b.write(0, 0x4008, 1, 50 + byte);
             }
-            let stored = b.state.palette.iter().any(|e| e.stored);
+            let stored = b.state.palette != [0; 256];
             tests.equal(&format!("{staged} staged, {reads} reads"), stored, false);
             tests.equal("place", b.read(0, 0x4000, 1), is(20 + (3 + reads) / 3));
             tests.equal("component", u32::from(b.state.component), reads % 3);
@@ -736,11 +738,7 @@ fn palette_stage(tests: &mut Tests) {
             b.write(0, 0x4008, 1, 2);
             b.write(0, offset, 1, address);
             b.write(0, 0x4008, 1, 3);
-            tests.equal(
-                "started again",
-                b.state.palette[address as usize].stored,
-                false,
-            );
+            tests.equal("started again", b.state.palette[address as usize], 0);
             b.write(0, 0x4008, 1, 4);
             b.write(0, 0x4008, 1, 5);
             tests.equal(
@@ -784,7 +782,7 @@ fn palette_stage(tests: &mut Tests) {
         for _ in component..3 {
             b.write(0, 0x4008, 1, 3);
         }
-        let stored = b.state.palette[5].stored;
+        let stored = b.state.palette[5] != 0;
         tests.equal(
             &format!("{component} {stage:?}"),
             stored,
@@ -804,7 +802,11 @@ fn palette_width(tests: &mut Tests) {
             let mut b = tests.usual();
             b.index(0x1e, width);
             b.entry(3, [byte; 3]);
-            tests.equal("stored", b.state.palette[3].components, [stored as u8; 3]);
+            tests.equal(
+                "stored",
+                b.state.palette[3],
+                0x0100_0000 + stored * 0x1_0101,
+            );
             b.index(0x1e, 0x3d);
             tests.equal("read by six", b.entry_read(3), [is(narrow); 3]);
             b.index(0x1e, 0x02);
@@ -821,7 +823,7 @@ fn palette_width(tests: &mut Tests) {
     }
     let reds: Vec<u8> = b.state.palette[..64]
         .iter()
-        .map(|entry| entry.components[0])
+        .map(|word| (word >> 16) as u8)
         .collect();
     tests.equal("rising", reds.windows(2).all(|two| two[0] < two[1]), true);
     tests.equal("black and white", (reds[0], reds[63]), (0, 255));
@@ -829,7 +831,7 @@ fn palette_width(tests: &mut Tests) {
     tests.equal("white", b.picture.clone(), vec![0x01ff_ffff; 4]);
     // The bytes of a state kept from before C-13 stay as they are (D-40).
     b.index(0x18, 0);
-    b.state.palette[63].components = [252; 3];
+    b.state.palette[63] = 0x01fc_fcfc;
     for (width, shown) in [(2, 252), (0, 63), (2, 252)] {
         b.index(0x1e, width);
         tests.equal("kept", b.entry_read(63), [is(shown); 3]);
@@ -848,7 +850,9 @@ fn palette_width(tests: &mut Tests) {
             b.write(0, 0x4008, 1, 0xd7);
             *stored = if eight { 0xd7 } else { 0x5d };
         }
-        tests.equal("mixed widths", b.state.palette[0x1e].components, expected);
+        let [red, green, blue] = expected;
+        let word = u32::from_be_bytes([1, red, green, blue]);
+        tests.equal("mixed widths", b.state.palette[0x1e], word);
         b.write(0, 0x4000, 1, 0x1e);
         for (place, stored) in expected.iter().enumerate() {
             let eight = widths >> place & 1 == 0;
@@ -1153,11 +1157,8 @@ fn picture_rules(tests: &mut Tests) {
 fn picture_places(tests: &mut Tests) {
     // Every byte is its own entry, so a dot tells its place.
     let palette = |b: &mut Bench| {
-        for number in 0..256usize {
-            b.state.palette[number] = Entry {
-                stored: true,
-                components: [0, 0, number as u8],
-            };
+        for number in 0..256 {
+            b.state.palette[number as usize] = 0x0100_0000 + number;
         }
     };
     for (width, height, bytes, base, stride) in [
@@ -1371,7 +1372,7 @@ fn states(tests: &mut Tests) {
         ("index status", |s| s.indirect[0x29] = Bits::new(0, 0x10)),
         ("index forgotten", |s| s.indirect[0x18].known &= !1),
         ("address unknown one", |s| s.address = 1),
-        ("palette", |s| s.palette[200].components[1] = 1),
+        ("palette", |s| s.palette[200] = 0x0000_0100),
     ];
     for (what, alter) in refused {
         let mut b = tests.usual();
@@ -1396,7 +1397,7 @@ fn states(tests: &mut Tests) {
             s.id_fixed = true;
             s.header[0x2c / 4].value ^= 0xffff_0000
         }),
-        ("a stored black", |s| s.palette[1].stored = true),
+        ("a stored black", |s| s.palette[1] = 0x0100_0000),
         ("a stage out of step", |s| s.stage = Stage::RedGreen(1, 2)),
         ("a clock parameter", |s| s.indirect[0x20].value = 0xff),
         ("an address partly known", |s| {
@@ -1667,11 +1668,7 @@ fn look_palette(tests: &mut Tests) {
             b.look(target, offset, enables);
         }
         let what = format!("a load with looks at {target} {offset:x}");
-        let stored = Entry {
-            stored: true,
-            components: [1, 2, 3],
-        };
-        tests.equal(&what, b.state.palette[0x18], stored);
+        tests.equal(&what, b.state.palette[0x18], 0x0101_0203);
         tests.equal(&what, b.read(0, 0x4000, 1), (0, 0x19, 0xff));
         tests.done(b);
     }
@@ -1682,7 +1679,7 @@ fn look_palette(tests: &mut Tests) {
     b.look(0, 0x4008, 1);
     b.read(0, 0x4008, 1);
     b.write(0, 0x4008, 1, 3);
-    tests.equal("a load with a read", b.state.palette[7].stored, false);
+    tests.equal("a load with a read", b.state.palette[7], 0);
     tests.done(b);
 }
 
@@ -2052,16 +2049,15 @@ fn look_lines(tests: &mut Tests) {
     }
 }
 
-/// Every break from 02, C-12 on is noticed by the tests of looks alone.
-fn look_breaks(tests: &mut Tests) {
-    let first = RULES.iter().position(|r| r.0 == Rule::LookIsRead);
-    for (rule, text) in &RULES[first.unwrap_or(0)..] {
+/// Every break of a later request is noticed by that request's tests alone.
+fn tried_breaks(tests: &mut Tests, rules: &[(Rule, &str)], own: &[(&str, Test)]) {
+    for (rule, text) in rules {
         let mut list = Tests {
             broken: Break::Rule(*rule),
             name: "",
             wrong: Vec::new(),
         };
-        for (_, test) in LOOK_TESTS {
+        for (_, test) in own {
             test(&mut list);
         }
         if list.wrong.is_empty() {
@@ -2208,10 +2204,9 @@ fn made_state(b: &mut Bench, rng: &mut Rng) {
         b.state.vendor_fixed = true;
         b.state.header[0x2c / 4].value ^= rng.word() & 0xffff;
     }
-    for entry in &mut b.state.palette {
+    for word in &mut b.state.palette {
         if rng.chance(1, 2) {
-            entry.stored = true;
-            entry.components = [rng.byte(), rng.byte(), rng.byte()];
+            *word = u32::from_be_bytes([1, rng.byte(), rng.byte(), rng.byte()]);
         }
     }
     // The picture that belongs to it.

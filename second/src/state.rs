@@ -2,15 +2,8 @@
 
 use crate::bits::Bits;
 use crate::breaks::{Break, Rule};
+use crate::palette::{self, ENTRIES, NEVER};
 use crate::tables::{Tables, HEADER_WORDS, INDICES, SUBSYSTEM};
-
-/// One entry of the palette. An entry never stored holds zeros.
-#[derive(Clone, Copy, PartialEq, Eq, Debug)]
-pub struct Entry {
-    pub stored: bool,
-    /// Red, green, blue.
-    pub components: [u8; 3],
-}
 
 /// The components of one entry that wait for the third one.
 #[derive(Clone, Copy, PartialEq, Eq, Debug)]
@@ -38,7 +31,8 @@ pub struct State {
     pub stage: Stage,
     /// One byte for every index.
     pub indirect: Vec<Bits>,
-    pub palette: Vec<Entry>,
+    /// One word for every entry (02, C-15).
+    pub palette: [u32; ENTRIES],
 }
 
 pub const SIDE_LIMIT: u32 = 1024;
@@ -47,10 +41,6 @@ pub const MEMORY_LIMIT: u64 = 8_388_608;
 impl State {
     /// The reset state of a panel and a memory.
     pub fn reset(tables: &Tables, width: u32, height: u32, memory_bytes: u32) -> State {
-        let never_stored = Entry {
-            stored: false,
-            components: [0; 3],
-        };
         State {
             width,
             height,
@@ -64,32 +54,45 @@ impl State {
             component: 0,
             stage: Stage::Empty,
             indirect: tables.indirect.iter().map(|i| i.reset).collect(),
-            palette: vec![never_stored; 256],
+            palette: [NEVER; ENTRIES],
         }
     }
 
     /// Refusal 1 is given exactly when this is false.
     pub fn is_state(&self, tables: &Tables, broken: &Break) -> bool {
-        if !side_fits(self.width)
-            || !side_fits(self.height)
-            || !memory_fits(u64::from(self.memory_bytes))
-        {
+        self.rest_fits(tables, broken) && self.palette_fits(broken)
+    }
+
+    /// All of refusal 1 but the palette.
+    pub fn rest_fits(&self, tables: &Tables, broken: &Break) -> bool {
+        let component_fits =
+            self.component <= 2 || broken.is(Rule::StateComponent) && self.component == 3;
+        let unknown_ones = self.address & !self.address_known != 0;
+        side_fits(self.width)
+            && side_fits(self.height)
+            && memory_fits(u64::from(self.memory_bytes))
+            && component_fits
+            && self.rows_fit(tables, broken)
+            && self.header_fits(tables, broken)
+            && (!unknown_ones || broken.is(Rule::StateUnknownOnes))
+    }
+
+    /// The registers of region 0 and the indirect ones.
+    fn rows_fit(&self, tables: &Tables, broken: &Break) -> bool {
+        if self.region0.len() != tables.region0.len() || self.indirect.len() != INDICES {
             return false;
         }
-        if self.component > 2 && !(broken.is(Rule::StateComponent) && self.component == 3) {
+        let direct = self.region0.iter().zip(&tables.region0);
+        let indirect = self.indirect.iter().zip(&tables.indirect);
+        direct
+            .map(|(held, register)| (*held, register.reset, register.writable))
+            .chain(indirect.map(|(held, register)| (*held, register.reset, register.writable)))
+            .all(|(held, reset, writable)| allowed(held, reset, writable, broken))
+    }
+
+    fn header_fits(&self, tables: &Tables, broken: &Break) -> bool {
+        if self.header.len() != HEADER_WORDS {
             return false;
-        }
-        if self.region0.len() != tables.region0.len()
-            || self.header.len() != HEADER_WORDS
-            || self.indirect.len() != INDICES
-            || self.palette.len() != 256
-        {
-            return false;
-        }
-        for (held, register) in self.region0.iter().zip(&tables.region0) {
-            if !allowed(*held, register.reset, register.writable, broken) {
-                return false;
-            }
         }
         for (place, (held, word)) in self.header.iter().zip(&tables.header).enumerate() {
             let mut changeable = word.writable | word.cleared;
@@ -105,18 +108,19 @@ impl State {
                 return false;
             }
         }
-        for (held, register) in self.indirect.iter().zip(&tables.indirect) {
-            if !allowed(*held, register.reset, register.writable, broken) {
-                return false;
-            }
-        }
-        let loose_ones = broken.is(Rule::StateUnknownOnes);
-        for entry in &self.palette {
-            if !entry.stored && entry.components != [0; 3] && !loose_ones {
-                return false;
-            }
-        }
-        self.address & !self.address_known == 0 || loose_ones
+        true
+    }
+
+    /// What refusal 1 asks of the palette: that of every entry.
+    pub fn palette_fits(&self, broken: &Break) -> bool {
+        let passed_over = |number: usize| match broken {
+            Break::Rule(Rule::EntryFirstUnasked) => number == 0,
+            Break::Rule(Rule::EntryLastUnasked) => number == 255,
+            Break::Rule(Rule::EntryAddressedOnly) => number != usize::from(self.address),
+            _ => false,
+        };
+        let mut entries = self.palette.iter().enumerate();
+        entries.all(|(number, word)| passed_over(number) || palette::fits(*word, broken))
     }
 }
 

@@ -6,6 +6,7 @@ use crate::bits::byte_of;
 use crate::breaks::{Break, Rule};
 use crate::model::{Act, Answer, Asked, At, Model, DONE};
 use crate::offsets::PALETTE_DATA;
+use crate::palette::{FLAG, NEVER};
 use crate::state::{Stage, State};
 use crate::tables::MISC_CONTROL;
 use crate::trace::{self, Lines, Machine, Setup};
@@ -20,6 +21,7 @@ pub struct Stats {
     pub reads: usize,
     pub telling: usize,
     pub six: Six,
+    pub words: Words,
     pub lanes: Lanes,
     /// Only where looks are counted.
     pub looks: Option<Looks>,
@@ -63,6 +65,20 @@ pub struct Six {
     pub other_counts: usize,
 }
 
+/// How often a trace touches the words of 02, C-15.
+#[derive(Default)]
+pub struct Words {
+    /// Lines that complete an entry, so that its word is stored; those of them
+    /// over a stored entry; those that store black.
+    pub stored: usize,
+    pub over: usize,
+    pub black: usize,
+    /// Palette data accesses that showed a stored entry's component, and those
+    /// that showed an entry never stored.
+    pub reads: (usize, usize),
+    pub looks: (usize, usize),
+}
+
 /// How often a trace touches the lanes of 02, C-17.
 pub struct Lanes {
     model: Model,
@@ -98,17 +114,7 @@ struct Written {
 pub fn of(trace: &[u8], setup: Setup, looks: bool) -> Result<Stats, String> {
     let mut machine = Machine::open(Break::Nothing, setup, false)?;
     let mut earlier = Machine::open(Break::Rule(Rule::SixBitFourTimes), setup, false)?;
-    let mut stats = Stats {
-        lines: 0,
-        bad: 0,
-        by_status: [0; 10],
-        changing: 0,
-        reads: 0,
-        telling: 0,
-        six: Six::default(),
-        lanes: Lanes::new(setup.memory_bytes),
-        looks: looks.then(Looks::default),
-    };
+    let mut stats = Stats::new(setup, looks);
     let mut lines = Lines::new(Break::Nothing);
     let mut input = BufReader::new(trace);
     while let Some(line) = lines.next(&mut input).map_err(|e| e.to_string())? {
@@ -123,29 +129,18 @@ pub fn of(trace: &[u8], setup: Setup, looks: bool) -> Result<Stats, String> {
         let old = machine.state().clone();
         let answer = machine.carry_out(&asked)?;
         let answer_earlier = earlier.carry_out(&asked)?;
+        let words = &mut stats.words;
+        words.count(&asked, &answer, &old, machine.state());
         if let Some(looks) = &mut stats.looks {
             looks.count(&asked, &answer, &old, machine.state());
         }
         if asked.act() == Act::Look {
             continue;
         }
-        let at = asked.at();
-        stats.by_status[answer.status as usize] += 1;
-        if answer.changed != 0 {
-            stats.changing += 1;
-        }
-        if asked.act() == Act::Read && answer.status == DONE {
-            stats.reads += 1;
-            if answer.known != 0 {
-                stats.telling += 1;
-            }
-        }
+        stats.count(&asked, &answer, machine.state());
         if let Some(byte) = palette_written(&asked, &answer) {
             let six = &mut stats.six;
             six.count(byte, completed_next(&old), machine.state(), earlier.state());
-        }
-        if at.is_memory() && answer.status == DONE {
-            stats.lanes.count(&asked, machine.state());
         }
         if answer.word != answer_earlier.word {
             stats.six.other_words += 1;
@@ -190,6 +185,52 @@ impl Six {
         if completed.is_some_and(|number| state.palette[number] != earlier.palette[number]) {
             self.entries += 1;
         }
+    }
+}
+
+impl Words {
+    /// Counts a line, with the states before and after it.
+    fn count(&mut self, asked: &Asked, answer: &Answer, old: &State, state: &State) {
+        if palette_written(asked, answer).is_some() {
+            if let Some(number) = completed_next(old) {
+                self.stored += 1;
+                self.over += usize::from(old.palette[number] != NEVER);
+                self.black += usize::from(state.palette[number] == FLAG);
+            }
+        }
+        let at = asked.at();
+        if answer.status != DONE || !at.is_register(PALETTE_DATA) || at.enables & 1 == 0 {
+            return;
+        }
+        let (stored, never) = match asked.act() {
+            Act::Read => (&mut self.reads.0, &mut self.reads.1),
+            Act::Look => (&mut self.looks.0, &mut self.looks.1),
+            Act::Write => return,
+        };
+        if old.palette[usize::from(old.address)] == NEVER {
+            *never += 1;
+        } else {
+            *stored += 1;
+        }
+    }
+
+    /// The counts as lines of text; looks only where they are counted.
+    fn report(&self, looks: bool) -> String {
+        let mut text = format!(
+            "entries stored: {}, over a stored one: {}, black: {}\n",
+            self.stored, self.over, self.black
+        );
+        text += &format!(
+            "palette data read: {} of a stored entry, {} of one never stored\n",
+            self.reads.0, self.reads.1
+        );
+        if looks {
+            text += &format!(
+                "palette data looked at: {} of a stored entry, {} of one never stored\n",
+                self.looks.0, self.looks.1
+            );
+        }
+        text
     }
 }
 
@@ -325,6 +366,38 @@ impl Lanes {
 }
 
 impl Stats {
+    fn new(setup: Setup, looks: bool) -> Stats {
+        Stats {
+            lines: 0,
+            bad: 0,
+            by_status: [0; 10],
+            changing: 0,
+            reads: 0,
+            telling: 0,
+            six: Six::default(),
+            words: Words::default(),
+            lanes: Lanes::new(setup.memory_bytes),
+            looks: looks.then(Looks::default),
+        }
+    }
+
+    /// Counts a read or a write, with the state after it.
+    fn count(&mut self, asked: &Asked, answer: &Answer, state: &State) {
+        self.by_status[answer.status as usize] += 1;
+        if answer.changed != 0 {
+            self.changing += 1;
+        }
+        if asked.act() == Act::Read && answer.status == DONE {
+            self.reads += 1;
+            if answer.known != 0 {
+                self.telling += 1;
+            }
+        }
+        if asked.at().is_memory() && answer.status == DONE {
+            self.lanes.count(asked, state);
+        }
+    }
+
     /// The counts as lines of text.
     pub fn report(&self) -> String {
         let share = |part: usize| 100.0 * part as f64 / self.lines.max(1) as f64;
@@ -355,6 +428,7 @@ impl Stats {
             six.other_words,
             six.other_counts
         );
+        text += &self.words.report(self.looks.is_some());
         text += &self.lanes.report();
         match &self.looks {
             Some(looks) => text + &looks.report(),

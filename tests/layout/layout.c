@@ -10,19 +10,16 @@
 /* crates/layout, which is proved to make and to take apart each struct by its fields' names */
 struct pm_looked made_looked(uint32_t status, uint32_t word, uint32_t known, uint32_t changed);
 struct pm_state made_state(uint32_t width, uint32_t height, uint32_t fitted, uint32_t once, const uint32_t *values, const uint32_t *knowns,
-    uint8_t address, uint8_t known, uint8_t component, uint8_t staged, uint8_t staged_red,
-    uint8_t staged_green, const uint8_t *red, const uint8_t *green, const uint8_t *blue, const uint8_t *stored);
+    const uint32_t *palette, uint8_t address, uint8_t known, uint8_t component, uint8_t staged, uint8_t staged_red,
+    uint8_t staged_green);
 struct pm_answer made_answer(uint32_t status, uint32_t word, uint32_t known, uint32_t changed, struct pm_state s);
 struct pm_opened made_opened(uint32_t status, struct pm_state s);
 void parts_of_looked(struct pm_looked l, uint32_t *out);
 void sizes_of_state(struct pm_state s, uint32_t *out);
 void values_of_state(struct pm_state s, uint32_t *out);
 void knowns_of_state(struct pm_state s, uint32_t *out);
+void palette_of_state(struct pm_state s, uint32_t *out);
 void dac_of_state(struct pm_state s, uint8_t *out);
-void red_of_state(struct pm_state s, uint8_t *out);
-void green_of_state(struct pm_state s, uint8_t *out);
-void blue_of_state(struct pm_state s, uint8_t *out);
-void stored_of_state(struct pm_state s, uint8_t *out);
 void parts_of_answer(struct pm_answer a, uint32_t *out);
 struct pm_state state_of_answer(struct pm_answer a);
 uint32_t status_of_opened(struct pm_opened o);
@@ -74,16 +71,13 @@ static struct pm_state written_state(unsigned from) {
     s.once = next_word();
     fill_words(s.values, PM_ROWS);
     fill_words(s.knowns, PM_ROWS);
+    fill_words(s.palette, PM_ENTRIES);
     s.dac.address = next_byte();
     s.dac.known = next_byte();
     s.dac.component = next_byte();
     s.dac.staged = next_byte();
     s.dac.red = next_byte();
     s.dac.green = next_byte();
-    fill_bytes(s.palette.red, 256);
-    fill_bytes(s.palette.green, 256);
-    fill_bytes(s.palette.blue, 256);
-    fill_bytes(s.palette.stored, 256);
     return s;
 }
 
@@ -95,39 +89,32 @@ static void read_state(const struct pm_state *s, unsigned from) {
     same("state.once", 0, s->once, next_word());
     same_words("state.values", s->values, PM_ROWS);
     same_words("state.knowns", s->knowns, PM_ROWS);
+    same_words("state.palette", s->palette, PM_ENTRIES);
     same("state.dac.address", 0, s->dac.address, next_byte());
     same("state.dac.known", 0, s->dac.known, next_byte());
     same("state.dac.component", 0, s->dac.component, next_byte());
     same("state.dac.staged", 0, s->dac.staged, next_byte());
     same("state.dac.red", 0, s->dac.red, next_byte());
     same("state.dac.green", 0, s->dac.green, next_byte());
-    same_bytes("state.palette.red", s->palette.red, 256);
-    same_bytes("state.palette.green", s->palette.green, 256);
-    same_bytes("state.palette.blue", s->palette.blue, 256);
-    same_bytes("state.palette.stored", s->palette.stored, 256);
 }
 
 /* ---- the same by the library: made from its parts, and taken apart ---- */
 
 static struct pm_state library_state(unsigned from) {
-    uint32_t sizes[4], values[PM_ROWS], knowns[PM_ROWS];
-    uint8_t dac[6], red[256], green[256], blue[256], stored[256];
+    uint32_t sizes[4], values[PM_ROWS], knowns[PM_ROWS], palette[PM_ENTRIES];
+    uint8_t dac[6];
     place = from;
     fill_words(sizes, 4);
     fill_words(values, PM_ROWS);
     fill_words(knowns, PM_ROWS);
+    fill_words(palette, PM_ENTRIES);
     fill_bytes(dac, 6);
-    fill_bytes(red, 256);
-    fill_bytes(green, 256);
-    fill_bytes(blue, 256);
-    fill_bytes(stored, 256);
-    return made_state(sizes[0], sizes[1], sizes[2], sizes[3], values, knowns, dac[0], dac[1], dac[2], dac[3], dac[4], dac[5], red,
-        green, blue, stored);
+    return made_state(sizes[0], sizes[1], sizes[2], sizes[3], values, knowns, palette, dac[0], dac[1], dac[2], dac[3], dac[4], dac[5]);
 }
 
 static void library_reads_state(struct pm_state s, unsigned from) {
-    uint32_t words[PM_ROWS];
-    uint8_t bytes[256];
+    uint32_t words[PM_ENTRIES];
+    uint8_t bytes[6];
     place = from;
     sizes_of_state(s, words);
     same_words("library: width, height, fitted, once", words, 4);
@@ -135,16 +122,10 @@ static void library_reads_state(struct pm_state s, unsigned from) {
     same_words("library: values", words, PM_ROWS);
     knowns_of_state(s, words);
     same_words("library: knowns", words, PM_ROWS);
+    palette_of_state(s, words);
+    same_words("library: palette", words, PM_ENTRIES);
     dac_of_state(s, bytes);
     same_bytes("library: dac", bytes, 6);
-    red_of_state(s, bytes);
-    same_bytes("library: palette.red", bytes, 256);
-    green_of_state(s, bytes);
-    same_bytes("library: palette.green", bytes, 256);
-    blue_of_state(s, bytes);
-    same_bytes("library: palette.blue", bytes, 256);
-    stored_of_state(s, bytes);
-    same_bytes("library: palette.stored", bytes, 256);
 }
 
 /* ---- the small structs: their words first, then the state ---- */

@@ -1,8 +1,8 @@
 -- The three demands on the code: what follows from the contracts of `open`, `read`, `write` and `look`, and from what is lent to be read only staying as it is (Calls), for any call and
 -- for any sequence of calls in which nobody else alters state, memory or picture. A run of calls is a run of the definitions (Calls), of which the other promises speak. Assumes nothing.
-use Prim.Native.Nat.{ℕ, _*_, _%_, _≤_, _<_}
+use Prim.Native.Nat.{ℕ, _+_, _*_, _%_, _≤_, _<_}
 use mathlib.Core.Bool.{Bool, true, false}
-use mathlib.Core.List.{List}
+use mathlib.Core.List.{List, []}
 use mathlib.Core.Logic.{_↔_, _⊎_}
 use mathlib.Core.Option.{some}
 use mathlib.Core.Path.{_≡_, sym, ap, _∙_, subst}
@@ -15,7 +15,7 @@ use Rattle.chip.specs.declared.Opened.{Opened}
 use Rattle.chip.specs.declared.Colour.{Colour}
 use Rattle.chip.specs.declared.Kind.the-variants.{Look}
 use Rattle.chip.specs.declared.Place.the-variants.{Register, Window}
-use Rattle.chip.specs.Palette.{entryCount, entryOf}
+use Rattle.chip.specs.Palette.{entryCount, Shades, entryOf}
 use Rattle.chip.specs.State.{resetState}
 use Rattle.chip.specs.Sound.{isState}
 use Rattle.chip.specs.Place.{placeOf}
@@ -28,7 +28,7 @@ use Rattle.promises.specs.History.{shows, Spot, Real, holds}
 use Rattle.promises.specs.Frame.{moves, broughtBit, SameBit}
 use Rattle.promises.specs.Refusals.{Words, Passes, Fails, OpeningHas}
 use Rattle.promises.specs.Origin.{BitStored, BitStated, ByteStored, ByteLent}
-use Rattle.promises.specs.Loads.{Loaded, ReadsPart, written, writtenIn}
+use Rattle.promises.specs.Loads.{Loaded, NoLoad, ReadsPart, written, writtenIn}
 use Rattle.promises.specs.Width.{eightBits}
 use Rattle.promises.specs.Told.{Told, ShownBy}
 use Rattle.promises.specs.Lanes.{WritesWindow, ReadsThere}
@@ -44,8 +44,11 @@ use Rattle.promises.proofs.Promise4Lanes.{written-back}
 use Rattle.promises.proofs.Promise5Picture.{picture-right, count-right, lengths-stay, dot-ruled}
 use Rattle.promises.proofs.Promise6Altered.{other-dots-stay, differing-dots-change}
 use Rattle.promises.proofs.Promise7Depends.{aperture-depends, command-gates-nothing, command-alters-nothing}
+use Rattle.promises.specs.PaletteColumns.{ColumnState, ColumnOutcome, columnStep, columnOpened, columnRun}
+use Rattle.promises.specs.PaletteAlike.{Paired, SameOutcome, SameWorld}
 use Rattle.promises.specs.Looks.{SameAsked, unlooked, answersOf, othersIn}
 use Rattle.promises.proofs.Promise9Looks.{look-alters-nothing, read-after-look, looks-change-nothing}
+use Rattle.promises.proofs.Promise10Palette.{layouts-access, layouts-world, word-exactly, word-never}
 use Rattle.calls.specs.Calls.{Called, OpenCalled, Calls}
 use Rattle.calls.proofs.Calls.{call-answers, call-leaves, open-answers, open-leaves, calls-leave, calls-answer}
 
@@ -167,6 +170,16 @@ calls-without-looks x l rs qs z v c d = (
   ap (othersIn l) (calls-answer x l rs z c) ∙ looks-change-nothing x l .1 ∙ sym (calls-answer x (unlooked l) qs v d),
 )
 
+-- 02, C-15: a call does what the machine with the palette in four columns does, on a state that is alike: status, word, mask, count, memory and picture are the same, and the states are alike again ..
+pub call-columns : (x : World) (a : Access) (r : Answer) (y : World) → Called x a r y → (b : ColumnState) → Paired b (x .state) → (o : ColumnOutcome) → o ≡ columnStep b (x .memory) (x .picture) a
+    → (r .status ≡ o .status) × (r .word ≡ o .word) × (r .known ≡ o .known) × (r .changed ≡ o .changed) × Paired (o .state) (y .state) × (y .memory ≡ o .memory) × (y .picture ≡ o .picture)
+call-columns x a r y c b q o e =
+    of-call x a r y c
+    (λ (t : Answer) (z : World).
+    (t .status ≡ o .status) × (t .word ≡ o .word) × (t .known ≡ o .known) × (t .changed ≡ o .changed) × Paired (o .state) (z .state) × (z .memory ≡ o .memory) × (z .picture ≡ o .picture))
+    (let f = subst (λ (u : ColumnOutcome). SameOutcome u (step x a)) (sym e) (layouts-access b (x .state) q (x .memory) (x .picture) a) in
+    (f .status, f .word, f .known, f .changed, f .state, f .memory, f .picture))
+
 -- the command register gates no call, and one that does not lead to it answers alike and leaves the same memory
 pub call-command : (x x′ : World) (a : Access) (r r′ : Answer) (y y′ : World) → Called x a r y → Called x′ a r′ y′ → Good x → Good x′ → ButRow x x′ command
     → (r′ .status ≡ r .status) × ((Leads (x .state) a (Register command) → ⊥) → (r′ .word ≡ r .word) × (r′ .known ≡ r .known) × (y′ .memory ≡ y .memory))
@@ -220,6 +233,10 @@ module _ (w h : ℕ) (m p : List ℕ) (r : Opened) (x : World) (c : OpenCalled w
   pub promised : (P : World → Type 0) → P (run (opened w h m p) l) → P z
   promised P q = subst P (sym (calls-agree .0)) q
 
+  -- 02, C-15: .. and so along the calls after any opening, refused or not
+  pub calls-columns : SameWorld (columnRun (columnOpened w h m p) l) z
+  calls-columns = promised (SameWorld (columnRun (columnOpened w h m p) l)) (layouts-world w h m p l)
+
   module _ (o : r .status ≡ 0) where
     -- demand 3: the picture is the one drawn afresh
     pub calls-picture : z .picture ≡ drawn (z .state) (z .memory)
@@ -253,6 +270,17 @@ module _ (w h : ℕ) (m p : List ℕ) (r : Opened) (x : World) (c : OpenCalled w
       pub calls-entries : (e : ℕ) → e < entryCount → (f : Colour) → (entryOf (z .state .palette) e ≡ some f) ↔ Loaded (opened w h m p) l e f
       calls-entries e g f =
           promised (λ (u : World). (entryOf (u .state .palette) e ≡ some f) ↔ Loaded (opened w h m p) l e f) (entry-exactly w h m p openable l e g f)
+
+      -- 02, C-15: an entry's word is 01RRGGBBh exactly where that colour was loaded, and 0 exactly where none was
+      pub calls-words : (e : ℕ) → e < entryCount
+          → ((f : Colour) → Shades f → (getD (z .state .palette) e 0 ≡ 0x01000000 + f .red * 0x10000 + f .green * 0x100 + f .blue) ↔ Loaded (opened w h m p) l e f)
+          × ((getD (z .state .palette) e 0 ≡ 0) ↔ NoLoad (opened w h m p) [] l e)
+      calls-words e g =
+          promised
+          (λ (u : World).
+          ((f : Colour) → Shades f → (getD (u .state .palette) e 0 ≡ 0x01000000 + f .red * 0x10000 + f .green * 0x100 + f .blue) ↔ Loaded (opened w h m p) l e f)
+          × ((getD (u .state .palette) e 0 ≡ 0) ↔ NoLoad (opened w h m p) [] l e))
+          (word-exactly w h m p openable l e g, word-never w h m p openable l e g)
 
       -- .. and what the next call shows as known, at every place, and from where
       pub calls-known : (a : Access) (s : Answer) (y : World) → Called z a s y → (b : ℕ) → b < 32 → (v : Bool) → (shows s b ≡ some v) ↔ ShownBy (opened w h m p) l a b v

@@ -6,7 +6,6 @@ use lib.ListN.{getD, set}
 use Rattle.bits.specs.Word.{joined, merged}
 use Rattle.chip.specs.declared.State.{State}
 use Rattle.chip.specs.declared.Dac.{Dac}
-use Rattle.chip.specs.declared.Palette.{Palette}
 use Rattle.chip.specs.Palette.{storeEntry}
 use Rattle.chip.specs.Dac.{Paint}
 use Rattle.chip.specs.Aperture.{Put, putAll}
@@ -40,7 +39,7 @@ abbrev pub learned : Option Store → List ℕ → List ℕ
 learned none l = l
 learned (some x) l = set l (x .row) (joined (getD l (x .row) 0) (x .bits))
 
-abbrev pub painted : Option Paint → Palette → Palette
+abbrev pub painted : Option Paint → List ℕ → List ℕ
 painted none p = p
 painted (some x) p = storeEntry p (x .entry) (x .colour)
 

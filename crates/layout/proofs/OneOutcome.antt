@@ -15,10 +15,7 @@ use Rattle.layout.proofs.sizes_of_state.Reads as sizes-of-state
 use Rattle.layout.proofs.values_of_state.Reads as values-of-state
 use Rattle.layout.proofs.knowns_of_state.Reads as knowns-of-state
 use Rattle.layout.proofs.dac_of_state.Reads as dac-of-state
-use Rattle.layout.proofs.red_of_state.Reads as red-of-state
-use Rattle.layout.proofs.green_of_state.Reads as green-of-state
-use Rattle.layout.proofs.blue_of_state.Reads as blue-of-state
-use Rattle.layout.proofs.stored_of_state.Reads as stored-of-state
+use Rattle.layout.proofs.palette_of_state.Reads as palette-of-state
 use Rattle.layout.proofs.parts_of_answer.Reads as parts-of-answer
 
 -- ---- made
@@ -61,17 +58,8 @@ knowns-of-state-one κs a r r′ x x′ p q = same-value p q
 pub dac-of-state-one : FixesLent dac-of-state.Post (λ κs x. now (x .1 .0))
 dac-of-state-one κs a r r′ x x′ p q = same-value p q
 
-pub red-of-state-one : FixesLent red-of-state.Post (λ κs x. now (x .1 .0))
-red-of-state-one κs a r r′ x x′ p q = same-value p q
-
-pub green-of-state-one : FixesLent green-of-state.Post (λ κs x. now (x .1 .0))
-green-of-state-one κs a r r′ x x′ p q = same-value p q
-
-pub blue-of-state-one : FixesLent blue-of-state.Post (λ κs x. now (x .1 .0))
-blue-of-state-one κs a r r′ x x′ p q = same-value p q
-
-pub stored-of-state-one : FixesLent stored-of-state.Post (λ κs x. now (x .1 .0))
-stored-of-state-one κs a r r′ x x′ p q = same-value p q
+pub palette-of-state-one : FixesLent palette-of-state.Post (λ κs x. now (x .1 .0))
+palette-of-state-one κs a r r′ x x′ p q = same-value p q
 
 pub parts-of-answer-one : FixesLent parts-of-answer.Post (λ κs x. now (x .1 .0))
 parts-of-answer-one κs a r r′ x x′ p q = same-value p q

@@ -6,7 +6,6 @@ use chip::Answer;
 use chip::Dac;
 use chip::Looked;
 use chip::Opened;
-use chip::Palette;
 use chip::ROWS;
 use chip::State;
 
@@ -24,7 +23,7 @@ pub extern "C" fn made_looked(status: u32, word: u32, known: u32, changed: u32) 
     }
 }
 
-// The parts in the order of the struct: the RAMDAC's six numbers are address to staged_green, the palette's columns red to stored.
+// The parts in the order of the struct: the RAMDAC's six numbers are address to staged_green.
 #[no_mangle]
 pub extern "C" fn made_state<'a>(
     width: u32,
@@ -33,18 +32,15 @@ pub extern "C" fn made_state<'a>(
     once: u32,
     values: &'a [u32; ROWS],
     knowns: &'a [u32; ROWS],
+    palette: &'a [u32; 256],
     address: u8,
     known: u8,
     component: u8,
     staged: u8,
     staged_red: u8,
     staged_green: u8,
-    red: &'a [u8; 256],
-    green: &'a [u8; 256],
-    blue: &'a [u8; 256],
-    stored: &'a [u8; 256],
 ) -> State
-    ensures { λ r. ⌜ r ≡ record { width = width; height = height; fitted = fitted; once = once; values = now (values .entry); knowns = now (knowns .entry); dac = record { address = address; known = known; component = component; staged = staged; red = «staged_red»; green = «staged_green» }; palette = record { red = now (red .entry); green = now (green .entry); blue = now (blue .entry); stored = now (stored .entry) } } ⌝ }
+    ensures { λ r. ⌜ r ≡ record { width = width; height = height; fitted = fitted; once = once; values = now (values .entry); knowns = now (knowns .entry); dac = record { address = address; known = known; component = component; staged = staged; red = «staged_red»; green = «staged_green» }; palette = now (palette .entry) } ⌝ }
 {
     let dac = Dac {
         address,
@@ -54,18 +50,9 @@ pub extern "C" fn made_state<'a>(
         red: staged_red,
         green: staged_green,
     };
-    let r = *red;
-    let g = *green;
-    let b = *blue;
-    let k = *stored;
-    let palette = Palette {
-        red: r,
-        green: g,
-        blue: b,
-        stored: k,
-    };
     let v = *values;
     let n = *knowns;
+    let p = *palette;
     State {
         width,
         height,
@@ -73,8 +60,8 @@ pub extern "C" fn made_state<'a>(
         once,
         values: v,
         knowns: n,
+        palette: p,
         dac,
-        palette,
     }
 }
 
@@ -131,6 +118,14 @@ pub extern "C" fn knowns_of_state(s: State, out: &mut [u32; ROWS])
 }
 
 #[no_mangle]
+pub extern "C" fn palette_of_state(s: State, out: &mut [u32; 256])
+    ensures { λ r. ⌜ now (out .exit) ≡ s .palette ⌝ }
+{
+    let part = s.palette;
+    *out = part;
+}
+
+#[no_mangle]
 pub extern "C" fn dac_of_state(s: State, out: &mut [u8; 6])
     ensures { λ r. ⌜ now (out .exit) ≡ s .dac .address ∷ s .dac .known ∷ s .dac .component ∷ s .dac .staged ∷ s .dac .red ∷ s .dac .green ∷ [] ⌝ }
 {
@@ -142,38 +137,6 @@ pub extern "C" fn dac_of_state(s: State, out: &mut [u8; 6])
         s.dac.red,
         s.dac.green,
     ];
-}
-
-#[no_mangle]
-pub extern "C" fn red_of_state(s: State, out: &mut [u8; 256])
-    ensures { λ r. ⌜ now (out .exit) ≡ s .palette .red ⌝ }
-{
-    let part = s.palette.red;
-    *out = part;
-}
-
-#[no_mangle]
-pub extern "C" fn green_of_state(s: State, out: &mut [u8; 256])
-    ensures { λ r. ⌜ now (out .exit) ≡ s .palette .green ⌝ }
-{
-    let part = s.palette.green;
-    *out = part;
-}
-
-#[no_mangle]
-pub extern "C" fn blue_of_state(s: State, out: &mut [u8; 256])
-    ensures { λ r. ⌜ now (out .exit) ≡ s .palette .blue ⌝ }
-{
-    let part = s.palette.blue;
-    *out = part;
-}
-
-#[no_mangle]
-pub extern "C" fn stored_of_state(s: State, out: &mut [u8; 256])
-    ensures { λ r. ⌜ now (out .exit) ≡ s .palette .stored ⌝ }
-{
-    let part = s.palette.stored;
-    *out = part;
 }
 
 #[no_mangle]

@@ -14,7 +14,6 @@ use Rattle.bits.proofs.Cases.{byTest}
 use Rattle.bits.proofs.Bools.{and-second}
 use Rattle.chip.specs.declared.State.{State}
 use Rattle.chip.specs.declared.Dac.{Dac}
-use Rattle.chip.specs.declared.Palette.{Palette}
 use Rattle.chip.specs.declared.Opened.{Opened}
 use Rattle.chip.specs.Dac.{resetDac}
 use Rattle.chip.specs.Palette.{emptyPalette}
@@ -60,12 +59,12 @@ opens-dots w h ml pl n e z =
 
 -- ---- the reset state
 
-pub reset-of : (w h f : ℕ) (v k : List ℕ) (d : Dac) (p : Palette) → v ≡ bankResets → k ≡ bankKnowns → d ≡ resetDac → p ≡ emptyPalette
+pub reset-of : (w h f : ℕ) (v k : List ℕ) (d : Dac) (p : List ℕ) → v ≡ bankResets → k ≡ bankKnowns → d ≡ resetDac → p ≡ emptyPalette
     → (let s : State = record { width = w; height = h; fitted = f; once = 0; values = v; knowns = k; dac = d; palette = p } in s) ≡ resetState w h f
 unfolding resetState
 reset-of w h f v k d p ev ek ed ep =
     ap₂ (λ (x y : List ℕ). (let s : State = record { width = w; height = h; fitted = f; once = 0; values = x; knowns = y; dac = d; palette = p } in s)) ev ek
-    ∙ ap₂ (λ (x : Dac) (y : Palette). (let s : State = record { width = w; height = h; fitted = f; once = 0; values = bankResets; knowns = bankKnowns; dac = x; palette = y } in s)) ed ep
+    ∙ ap₂ (λ (x : Dac) (y : List ℕ). (let s : State = record { width = w; height = h; fitted = f; once = 0; values = bankResets; knowns = bankKnowns; dac = x; palette = y } in s)) ed ep
 
 -- ---- the fill
 

@@ -13,7 +13,6 @@ use Rattle.bits.proofs.Cases.{pick-same}
 use Rattle.chip.specs.declared.State.{State}
 use Rattle.chip.specs.declared.Access.{Access}
 use Rattle.chip.specs.declared.Dac.{Dac}
-use Rattle.chip.specs.declared.Palette.{Palette}
 use Rattle.chip.specs.declared.Place.{Place}
 use Rattle.chip.specs.declared.Place.the-variants.{Register, Address, PaletteData, Window, Blank, Nowhere}
 use Rattle.chip.specs.Bank.{screenBase, screenStride, pixelMask, colorMode}
@@ -58,7 +57,7 @@ patch-view p s a e =
       mask = ap (λ (k : ℕ). k % 256) (valued-aside (p .store) (s .values) pixelMask a refl);
       mask-known = ap (λ (k : ℕ). k % 256) (learned-aside (p .store) (s .knowns) pixelMask a refl);
       mode = ap (λ (k : ℕ). k % 32) (valued-aside (p .store) (s .values) colorMode a refl);
-      palette = λ k. ap (λ (q : Palette). entryOf q k) e;
+      palette = λ k. ap (λ (q : List ℕ). entryOf q k) e;
     }
 
 quiet-patch : (p : Patch) (s : State) → Aside (p .store) → painted (p .paint) (s .palette) ≡ s .palette → Quiet s (applied p s)

@@ -3,6 +3,7 @@
 use Prim.Native.Nat.{ℕ}
 use mathlib.Core.Bool.{Bool, true, false}
 use mathlib.Core.Option.{Option·getD}
+use mathlib.Core.List.{List}
 use mathlib.Core.Path.{_≡_, sym, ap, ap₂, _∙_}
 use lib.Dec.{eqb}
 use borrow.Author.Tests.{ne-eqb}
@@ -11,7 +12,6 @@ use Rattle.bits.specs.Word.{laneByte}
 use Rattle.chip.specs.declared.State.{State}
 use Rattle.chip.specs.declared.Access.{Access}
 use Rattle.chip.specs.declared.Dac.{Dac}
-use Rattle.chip.specs.declared.Palette.{Palette}
 use Rattle.chip.specs.declared.Place.the-variants.{Address, PaletteData}
 use Rattle.chip.specs.Bank.{screenBase, screenStride, pixelMask, colorMode}
 use Rattle.chip.specs.Dac.{aimedAt, afterFetch, afterPaint, completedBy}
@@ -20,7 +20,7 @@ use Rattle.chip.specs.Port.{aimPatch, fetchPatch, keptFrom, paintPatch, portAt}
 use Rattle.model.specs.Parts.{rowShows}
 
 -- a state with another RAMDAC and palette
-abbrev pub withDac : State → Dac → Palette → State
+abbrev pub withDac : State → Dac → List ℕ → State
 withDac s d p =
     record { width = s .width; height = s .height; fitted = s .fitted; once = s .once; values = s .values; knowns = s .knowns; dac = d; palette = p }
 
@@ -34,7 +34,7 @@ module _ (s : State) (a : Access) (t : Bool) (et : t ≡ bit 0 (a .enables)) whe
   unfolding applied portAt aimPatch
   no-address e = simp (sym et ∙ e)
 
-  pub wrote-palette : (v : ℕ) (d : Dac) (p : Palette) → t ≡ true → v ≡ keptFrom s a → d ≡ afterPaint (s .dac) v → p ≡ painted (completedBy (s .dac) v) (s .palette)
+  pub wrote-palette : (v : ℕ) (d : Dac) (p : List ℕ) → t ≡ true → v ≡ keptFrom s a → d ≡ afterPaint (s .dac) v → p ≡ painted (completedBy (s .dac) v) (s .palette)
       → withDac s d p ≡ applied (portAt s a PaletteData .stored) s
   unfolding applied portAt paintPatch
   wrote-palette v d p e ev ed ep =

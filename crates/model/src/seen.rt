@@ -29,9 +29,7 @@ pub(crate) fn palette_wide(s: State) -> bool
 fn seen_data(s: State, a: Access) -> Seen
     ensures { λ r. ⌜ r ≡ portAt s a PaletteData .seen [] ⌝ }
 {
-    let wide = palette_wide(s);
-    let p = s.palette;
-    palette::entries::seen_palette(wide, s.dac, p)
+    palette::entries::seen_palette(palette_wide(s), s.dac, &s.palette)
 }
 
 fn seen_window<'a>(s: State, a: Access, i: usize, memory: &'a [u8]) -> Seen

@@ -33,10 +33,5 @@ pub(crate) fn is_state(s: State) -> bool
     sizes_ok(s.width, s.height, s.fitted, s.once)
         & palette::dac::dac_sound(s.dac)
         & registers::bank::bank_sound(s.once, &s.values, &s.knowns)
-        & palette::entries::palette_sound(
-            &s.palette.red,
-            &s.palette.green,
-            &s.palette.blue,
-            &s.palette.stored,
-        )
+        & palette::entries::palette_sound(&s.palette)
 }

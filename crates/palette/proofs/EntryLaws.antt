@@ -1,59 +1,66 @@
--- An entry's fault byte is zero exactly where its test passes, and what the code finds at an entry.
--- By the cases of its flag: 0, 1 and more. Assumes nothing.
-use Prim.Native.Nat.{ℕ, zero, suc, _-_, _*_, _/_, _%_, _<_}
-use mathlib.Core.Bool.{Bool, true, false, _&&_}
-use mathlib.Core.Path.{_≡_, refl, ap, _∙_}
+-- A palette word with its flag turned over is at most 01000000h exactly where refusal 1 passes it, and what the code finds at an entry.
+-- By the word's top byte. Assumes nothing.
+use Prim.Native.Nat.{ℕ, _+_, _-_, _*_, _/_, _%_, _^_, _<_, _≤_}
+use mathlib.Core.Bool.{_&&_}
+use mathlib.Core.List.{List}
+use mathlib.Core.Path.{_≡_, refl, sym, ap, ap₂, _∙_}
+use native.Mathlib.Nat.{mod-lt}
 use native.Mathlib.Omega.{arith}
-use borrow.Author.Tests.{eq-eqb, ne-eqb}
-use lib.Bits.{bitAnd, bitOr, and-mask, and-zero-r, or-lt}
-use lib.Dec.{eqb}
+use borrow.Author.Tests.{eqb-true, eqb-false, eq-eqb, ne-eqb, leb-true, le-leb, lt-leb}
+use lib.Bits.{bitXor, differ, xor-step, xor-zero-r, xor-block}
+use lib.Dec.{eqb, leb}
 use lib.ListN.{getD}
-use Rattle.bits.proofs.Gathers.{or-zero}
-use Rattle.chip.specs.declared.Palette.{Palette}
-use Rattle.chip.specs.Palette.{entryOf}
+use Rattle.bits.proofs.Cases.{byTest}
+use Rattle.bits.proofs.Bools.{and-false, and-both, or-true}
+use Rattle.bits.proofs.Digits.{by-digit}
+use Rattle.chip.specs.Palette.{colourIn, isStored, entryOf, wordOk}
 use Rattle.palette.specs.declared.entries.Found.the-variants.{Never, Stored}
-use Rattle.palette.specs.Entry.{foundOf, entryFine}
+use Rattle.palette.specs.Entry.{foundOf}
 
--- ---- fault bytes
+-- ---- refusal 1
 
-or-three : (a b c : ℕ) → eqb (bitOr (bitOr a b) c) 0 ≡ (eqb a 0 && (eqb b 0 && eqb c 0))
-or-three a b c = or-zero (bitOr a b) c ∙ ap (λ (t : Bool). t && eqb c 0) (or-zero a b) ∙ grouped (eqb a 0) (eqb b 0) (eqb c 0)
-  where
-    grouped : (x y z : Bool) → ((x && y) && z) ≡ (x && (y && z))
-    grouped true y z = refl
-    grouped false y z = refl
+-- a number with its lowest bit turned over
+turned-low : (a : ℕ) → bitXor a 1 ≡ a / 2 * 2 + (1 - a % 2)
+turned-low a = xor-step a 1 ∙ ap₂ (λ (x y : ℕ). x * 2 + y) (xor-zero-r (a / 2)) (by-digit (λ (d : ℕ). differ d 1 ≡ 1 - d) refl refl (a % 2) (mod-lt a (omega arith)))
 
--- the components where the flag's lowest bit is 0, nothing where it is 1
-shown : ℕ → ℕ → ℕ
-shown c s = bitAnd c (255 * (1 - s % 2))
+-- a word with bit 24 turned over
+turned-flag : (w : ℕ) → bitXor w 0x01000000 ≡ (w / 0x1000000 / 2 * 2 + (1 - w / 0x1000000 % 2)) * 0x1000000 + w % 0x1000000
+turned-flag w =
+    ap (λ (v : ℕ). bitXor v 0x01000000) (let e : w ≡ w / 0x1000000 * 2 ^ 24 + w % 0x1000000 = omega arith in e)
+    ∙ xor-block 24 (w / 0x1000000) 1 (w % 0x1000000) 0 (mod-lt w (omega arith)) (omega arith)
+    ∙ ap₂ (λ (x y : ℕ). x * 0x1000000 + y) (turned-low (w / 0x1000000)) (xor-zero-r (w % 0x1000000))
 
-never-stored : (c : ℕ) → c < 256 → bitOr (0 / 2) (shown c 0) ≡ c
-unfolding shown
-never-stored c h = and-mask c 8 ∙ omega arith
+pub turned-ok : (w : ℕ) → leb (bitXor w 0x01000000) 0x01000000 ≡ wordOk w
+unfolding wordOk isStored
+turned-ok w =
+    let z = turned-flag w in
+    byTest (eqb (w / 0x1000000) 1)
+    (λ t. let y = eqb-true (w / 0x1000000) 1 t in simp t (le-leb (bitXor w 0x01000000) 0x01000000 (omega (arith, z, y)) ∙ sym (or-true (eqb w 0))))
+    (λ t.
+    let n : w / 0x1000000 ≡ 1 → ⊥ = eqb-false (w / 0x1000000) 1 t in
+    byTest (eqb w 0)
+    (λ u. let y = eqb-true w 0 u in simp u (le-leb (bitXor w 0x01000000) 0x01000000 (omega (arith, z, y))))
+    (λ u. let m : w ≡ 0 → ⊥ = eqb-false w 0 u in simp (t, u) (lt-leb (bitXor w 0x01000000) 0x01000000 (omega (arith, z, n, m)))))
 
-once-stored : (c : ℕ) → bitOr (1 / 2) (shown c 1) ≡ 0
-unfolding shown
-once-stored c = and-zero-r c
+-- the larger of two
+pub larger-second : (a b : ℕ) → a < b → (k : ℕ) → leb b k ≡ (leb a k && leb b k)
+larger-second a b h k =
+    byTest (leb b k)
+    (λ t. let y = leb-true b k t in t ∙ sym (and-both (leb a k) (leb b k) (le-leb a k (omega (arith, h, y))) t))
+    (λ t. simp t (sym (and-false (leb a k))))
 
-more : (n s : ℕ) → eqb (bitOr (suc (suc s) / 2) n) 0 ≡ false
-more n s = or-zero (suc (suc s) / 2) n ∙ ap (λ (t : Bool). t && eqb n 0) (ne-eqb (suc (suc s) / 2) 0 (λ z. omega arith))
+pub larger-first : (a b : ℕ) → b ≤ a → (k : ℕ) → leb a k ≡ (leb a k && leb b k)
+larger-first a b h k =
+    byTest (leb a k)
+    (λ t. let y = leb-true a k t in t ∙ sym (and-both (leb a k) (leb b k) t (le-leb b k (omega (arith, h, y)))))
+    (λ t. simp t)
 
-pub entry-fault : (r g b s : ℕ) → r < 256 → g < 256 → b < 256
-    → eqb (bitOr (s / 2) (bitAnd (bitOr (bitOr r g) b) (255 * (1 - s % 2)))) 0 ≡ entryFine r g b s
-unfolding entryFine shown
-entry-fault r g b zero hr hg hb =
-    ap (λ (n : ℕ). eqb n 0) (never-stored (bitOr (bitOr r g) b) (or-lt 8 (bitOr r g) b (or-lt 8 r g hr hg) hb)) ∙ or-three r g b
-entry-fault r g b (suc zero) hr hg hb = ap (λ (n : ℕ). eqb n 0) (once-stored (bitOr (bitOr r g) b))
-entry-fault r g b (suc (suc s)) hr hg hb =
-    simp (ne-eqb (suc (suc s)) 0 (λ z. omega arith), ne-eqb (suc (suc s)) 1 (λ z. omega arith)) (more _ s)
+-- ---- an entry by its top byte
 
--- ---- an entry by its flag
+pub entry-never : (p : List ℕ) (e : ℕ) → (getD p e 0 / 0x1000000 ≡ 1 → ⊥) → Never ≡ foundOf (entryOf p e)
+unfolding entryOf isStored
+entry-never p e n = simp (ne-eqb (getD p e 0 / 0x1000000) 1 n)
 
-pub entry-never : (p : Palette) (e : ℕ) → getD (p .stored) e 0 ≡ 0 → Never ≡ foundOf (entryOf p e)
-unfolding entryOf
-entry-never p e z = simp (eq-eqb (getD (p .stored) e 0) 0 z)
-
-pub entry-stored : (p : Palette) (e : ℕ) → (getD (p .stored) e 0 ≡ 0 → ⊥)
-    → Stored (record { red = getD (p .red) e 0; green = getD (p .green) e 0; blue = getD (p .blue) e 0 }) ≡ foundOf (entryOf p e)
-unfolding entryOf
-entry-stored p e n = simp (ne-eqb (getD (p .stored) e 0) 0 n)
+pub entry-stored : (p : List ℕ) (e : ℕ) → getD p e 0 / 0x1000000 ≡ 1 → Stored (colourIn (getD p e 0)) ≡ foundOf (entryOf p e)
+unfolding entryOf isStored
+entry-stored p e z = simp (eq-eqb (getD p e 0 / 0x1000000) 1 z)

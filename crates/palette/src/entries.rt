@@ -2,15 +2,16 @@
 use crate::dac::completes;
 use chip::Colour;
 use chip::Dac;
-use chip::Palette;
 use chip::Seen;
 ghost use mathlib.Core.Path.{_≡_};
-ghost use lib.Dec.{eqb};
-ghost use Rattle.chip.specs.Palette.{emptyPalette, entryOf, storeEntry, keptAs, shownAs, partOf, paletteOk};
+ghost use Prim.Native.Nat.{ℕ};
+ghost use mathlib.Core.Bool.{_&&_};
+ghost use lib.Dec.{leb};
+ghost use Rattle.chip.specs.Palette.{emptyPalette, colouredWord, colourIn, entryOf, storeEntry, wordOk, keptAs, shownAs, partOf, paletteOk};
 ghost use Rattle.chip.specs.Dac.{completedBy};
 ghost use Rattle.chip.specs.Patch.{painted};
 ghost use Rattle.chip.specs.Port.{seenPart};
-ghost use Rattle.palette.specs.Entry.{foundOf, entryFine};
+ghost use Rattle.palette.specs.Entry.{foundOf};
 
 // What a palette entry holds: nothing, where it was never stored, or a colour.
 pub enum Found {
@@ -18,29 +19,37 @@ pub enum Found {
     Stored(Colour),
 }
 
-pub fn entry_of(p: Palette, e: u8) -> Found
-    ensures { λ r. ⌜ r ≡ foundOf (entryOf p e) ⌝ }
+fn colour_in(w: u32) -> Colour
+    ensures { λ r. ⌜ r ≡ colourIn w ⌝ }
 {
-    let i = e as usize;
-    let flag = p.stored[i];
-    if flag == 0 {
-        return Found::Never;
+    Colour {
+        red: (w / 0x10000 % 256) as u8,
+        green: (w / 0x100 % 256) as u8,
+        blue: (w % 256) as u8,
     }
-    let red = p.red[i];
-    let green = p.green[i];
-    let blue = p.blue[i];
-    Found::Stored(Colour { red, green, blue })
 }
 
-pub fn store_entry(p: Palette, e: u8, c: Colour) -> Palette
+pub fn entry_of<'a>(p: &'a [u32; 256], e: u8) -> Found
+    ensures { λ r. ⌜ r ≡ foundOf (entryOf (now (p .entry)) e) ⌝ }
+{
+    let w = p[e as usize];
+    if w / 0x1000000 == 1 {
+        return Found::Stored(colour_in(w));
+    }
+    Found::Never
+}
+
+fn coloured_word(c: Colour) -> u32
+    ensures { λ r. ⌜ r ≡ colouredWord c ⌝ }
+{
+    0x01000000 + wide_of(c.red) * 0x10000 + wide_of(c.green) * 0x100 + wide_of(c.blue)
+}
+
+pub fn store_entry(p: [u32; 256], e: u8, c: Colour) -> [u32; 256]
     ensures { λ r. ⌜ r ≡ storeEntry p e c ⌝ }
 {
     let mut q = p;
-    let i = e as usize;
-    q.red[i] = c.red;
-    q.green[i] = c.green;
-    q.blue[i] = c.blue;
-    q.stored[i] = 1;
+    q[e as usize] = coloured_word(c);
     q
 }
 
@@ -85,35 +94,40 @@ pub fn part_of(c: u8, x: Colour) -> u8
     x.blue
 }
 
-// Zero exactly where refusal 1 finds no fault in an entry: its flag has no upper bit, and where the lowest is 0 no component has
-// any. One less that bit, times 255, is the mask under which the components count.
-fn entry_fault(red: u8, green: u8, blue: u8, stored: u8) -> u8
-    ensures { λ r. ⌜ eqb r 0 ≡ entryFine red green blue stored ⌝ }
+// The larger of two: it is at most k exactly where both are.
+fn larger(a: u32, b: u32) -> u32
+    ensures { λ r. ⌜ ((k : ℕ) → leb r k ≡ (leb a k && leb b k)) ⌝ }
 {
-    stored / 2 | ((red | green | blue) & 255 * (1 - stored % 2))
+    if a < b {
+        return b;
+    }
+    a
 }
 
-// Refusal 1's test of the palette. The loop gathers and tests nothing, so that it runs over many entries at a time.
-pub fn palette_sound<'a>(
-    red: &'a [u8; 256],
-    green: &'a [u8; 256],
-    blue: &'a [u8; 256],
-    stored: &'a [u8; 256],
-) -> bool
-    ensures { λ r. ⌜ r ≡ paletteOk (record { red = now (red .entry); green = now (green .entry); blue = now (blue .entry); stored = now (stored .entry) }) ⌝ }
+// An entry's word with the flag turned over: a stored colour loses it, and 0, which was never stored, becomes 01000000h. Every word that refusal 1
+// refuses becomes larger than that.
+fn turned(w: u32) -> u32
+    ensures { λ r. ⌜ leb r 0x01000000 ≡ wordOk w ⌝ }
 {
-    let mut faults: u8 = 0;
+    w ^ 0x01000000
+}
+
+// Refusal 1's test of the palette: the largest of the turned words decides. So the loop has no test, and runs over many entries at a time.
+pub fn palette_sound<'a>(p: &'a [u32; 256]) -> bool
+    ensures { λ r. ⌜ r ≡ paletteOk (now (p .entry)) ⌝ }
+{
+    let mut most: u32 = 0;
     let mut i = 0;
     while i < 256 {
-        faults = faults | entry_fault(red[i], green[i], blue[i], stored[i]);
+        most = larger(most, turned(p[i]));
         i += 1;
     }
-    faults == 0
+    most <= 0x01000000
 }
 
 // What a read or a look of palette data sees: a component as the width shows it, and eight unknown bits of an entry never stored.
-pub fn seen_palette(wide: bool, d: Dac, p: Palette) -> Seen
-    ensures { λ r. ⌜ r ≡ seenPart wide (d .component) (entryOf p (d .address)) ⌝ }
+pub fn seen_palette<'a>(wide: bool, d: Dac, p: &'a [u32; 256]) -> Seen
+    ensures { λ r. ⌜ r ≡ seenPart wide (d .component) (entryOf (now (p .entry)) (d .address)) ⌝ }
 {
     let f = entry_of(p, d.address);
     match f {
@@ -129,7 +143,7 @@ pub fn seen_palette(wide: bool, d: Dac, p: Palette) -> Seen
 }
 
 // The palette after byte v, as it is stored, was written to a component: only the third, after the two before it, stores an entry.
-pub fn palette_after(d: Dac, p: Palette, v: u8) -> Palette
+pub fn palette_after(d: Dac, p: [u32; 256], v: u8) -> [u32; 256]
     ensures { λ r. ⌜ r ≡ painted (completedBy d v) p ⌝ }
 {
     if completes(d) {
@@ -144,13 +158,8 @@ pub fn palette_after(d: Dac, p: Palette, v: u8) -> Palette
 }
 
 // Nothing stored.
-pub fn empty_palette() -> Palette
+pub fn empty_palette() -> [u32; 256]
     ensures { λ r. ⌜ r ≡ emptyPalette ⌝ }
 {
-    Palette {
-        red: [0u8; 256],
-        green: [0u8; 256],
-        blue: [0u8; 256],
-        stored: [0u8; 256],
-    }
+    [0u32; 256]
 }

@@ -17,14 +17,7 @@ use chip::State;
 fn table_of(s: State) -> [u32; 256]
     ensures { λ r. ⌜ TableFrom (shownOf s) (maskOf s) (s .palette) 256 r ⌝ }
 {
-    table_from(
-        shown_of(s),
-        mask_of(s),
-        &s.palette.red,
-        &s.palette.green,
-        &s.palette.blue,
-        &s.palette.stored,
-    )
+    table_from(shown_of(s), mask_of(s), &s.palette)
 }
 
 pub fn panel_fits(width: u32, height: u32) -> bool

@@ -5,7 +5,7 @@ ghost use Rattle.bits.specs.Word.{inside};
 ghost use Rattle.chip.specs.Palette.{entryOf};
 ghost use Rattle.chip.specs.View.{baseOf, strideOf, maskOf, notIndexed, unplaced};
 ghost use Rattle.chip.specs.Picture.{colourWord};
-ghost use Rattle.picture.specs.Draw.{shownOf, shownWord, paletteOf, TableFrom};
+ghost use Rattle.picture.specs.Draw.{shownOf, shownWord, TableFrom};
 ghost use Rattle.picture.specs.Layout.{layoutOf};
 use chip::COLOR_MODE;
 use chip::PIXEL_MASK;
@@ -106,21 +106,16 @@ fn wide(x: u8) -> u32
     x as u32
 }
 
-// Rules 4 and 5: the word of a palette entry.
-pub(crate) fn entry_word<'a>(
-    red: &'a [u8; 256],
-    green: &'a [u8; 256],
-    blue: &'a [u8; 256],
-    stored: &'a [u8; 256],
-    e: usize,
-) -> u32
+// Rules 4 and 5: the word of a palette entry's dots is the entry's own, where a colour was stored.
+pub(crate) fn entry_word<'a>(palette: &'a [u32; 256], e: usize) -> u32
     requires { ⌜ e < 256 ⌝ }
-    ensures { λ r. ⌜ r ≡ colourWord (entryOf (paletteOf (now (red .entry)) (now (green .entry)) (now (blue .entry)) (now (stored .entry))) e) ⌝ }
+    ensures { λ r. ⌜ r ≡ colourWord (entryOf (now (palette .entry)) e) ⌝ }
 {
-    if stored[e] == 0 {
-        return 0x04000000;
+    let w = palette[e];
+    if w / 0x1000000 == 1 {
+        return w;
     }
-    0x01000000 + wide(red[e]) * 0x10000 + wide(green[e]) * 0x100 + wide(blue[e])
+    0x04000000
 }
 
 fn entry_index(b: usize, mask: u8) -> usize
@@ -130,39 +125,24 @@ fn entry_index(b: usize, mask: u8) -> usize
     bits::bits_inside(b as u32, wide(mask)) as usize
 }
 
-pub(crate) fn table_word<'a>(
-    shown: Shown,
-    mask: u8,
-    red: &'a [u8; 256],
-    green: &'a [u8; 256],
-    blue: &'a [u8; 256],
-    stored: &'a [u8; 256],
-    b: usize,
-) -> u32
+pub(crate) fn table_word<'a>(shown: Shown, mask: u8, palette: &'a [u32; 256], b: usize) -> u32
     requires { ⌜ b < 256 ⌝ }
-    ensures { λ r. ⌜ r ≡ shownWord shown (colourWord (entryOf (paletteOf (now (red .entry)) (now (green .entry)) (now (blue .entry)) (now (stored .entry))) (inside b mask))) ⌝ }
+    ensures { λ r. ⌜ r ≡ shownWord shown (colourWord (entryOf (now (palette .entry)) (inside b mask))) ⌝ }
 {
     match shown {
         Shown::All(v) => v,
-        Shown::Each => entry_word(red, green, blue, stored, entry_index(b, mask)),
+        Shown::Each => entry_word(palette, entry_index(b, mask)),
     }
 }
 
 // The words of the 256 bytes, with one word in every place where every dot has it.
-pub(crate) fn table_from<'a>(
-    shown: Shown,
-    mask: u8,
-    red: &'a [u8; 256],
-    green: &'a [u8; 256],
-    blue: &'a [u8; 256],
-    stored: &'a [u8; 256],
-) -> [u32; 256]
-    ensures { λ r. ⌜ TableFrom shown mask (paletteOf (now (red .entry)) (now (green .entry)) (now (blue .entry)) (now (stored .entry))) 256 r ⌝ }
+pub(crate) fn table_from<'a>(shown: Shown, mask: u8, palette: &'a [u32; 256]) -> [u32; 256]
+    ensures { λ r. ⌜ TableFrom shown mask (now (palette .entry)) 256 r ⌝ }
 {
     let mut t = [0u32; 256];
     let mut b = 0;
     while b < 256 {
-        let w = table_word(shown, mask, red, green, blue, stored, b);
+        let w = table_word(shown, mask, palette, b);
         t[b] = w;
         b += 1;
     }

@@ -1,28 +1,29 @@
 -- Refusal 1 in 01's words: a state is one exactly where each of its clauses holds.
 -- Clause by clause; a register's fault word is zero exactly where each of its bits is sound. Assumes nothing.
-use Prim.Native.Nat.{ℕ, _%_, _^_, _<_, _≤_}
+use Prim.Native.Nat.{ℕ, _+_, _-_, _/_, _%_, _^_, _<_, _≤_}
 use mathlib.Core.Bool.{Bool, true, false, not, _&&_}
 use mathlib.Core.Logic.{_↔_, _⊎_, inl, inr}
-use mathlib.Core.Path.{_≡_, refl, sym, subst}
+use mathlib.Core.Path.{_≡_, refl, sym, ap, ap₂, _∙_, subst}
 use native.Mathlib.Omega.{arith}
 use borrow.Author.Tests.{eqb-true, eqb-false, eq-eqb, leb-true, le-leb}
 use lib.Dec.{eqb, leb}
 use lib.ListN.{getD}
 use Rattle.bits.specs.Bit.{bit, differs}
+use Rattle.bits.specs.Word.{laneByte}
 use Rattle.bits.proofs.Cases.{byTest, pick-by}
-use Rattle.bits.proofs.Bools.{and-first, and-second, every-at, every-all}
-use Rattle.bits.proofs.Single.{bit-of-zero}
+use Rattle.bits.proofs.Bools.{and-first, and-second, or-true, or-second, every-at, every-all}
+use Rattle.bits.proofs.Single.{bit-of-zero, by-bits}
 use Rattle.bits.proofs.Words.{clear, clear-not, bit-joined}
+use Rattle.bits.proofs.Lanes.{bit-lane, lane-lt, bit-high}
 use Rattle.chip.specs.declared.State.{State}
-use Rattle.chip.specs.declared.Palette.{Palette}
 use Rattle.chip.specs.Bank.{bankCount, bankRow, subsystem}
 use Rattle.chip.specs.Subsystem.{halfBits, exempt}
 use Rattle.chip.specs.Register.{mayChange, faults}
-use Rattle.chip.specs.Palette.{entryCount, entryOk, paletteOk}
+use Rattle.chip.specs.Palette.{entryCount, isStored, wordOk, entryOk, paletteOk}
 use Rattle.chip.specs.Sound.{panelOk, memoryOk, componentOk, addressOk, onceOk, rowOk, bankSound, isState}
 use Rattle.chip.proofs.Faults.{fault-parts, fault-none, faults-at, faults-none}
 use Rattle.chip.proofs.Tables.{bank-rule}
-use Rattle.promises.specs.Refusals.{Panel, Memory, SoundBit, freeBit, SoundEntry, IsState, Words}
+use Rattle.promises.specs.Refusals.{Panel, Memory, SoundBit, freeBit, Flagged, SoundEntry, IsState, Words}
 use Rattle.promises.proofs.Sane.{sane, is-state}
 use Rattle.promises.proofs.Moved.{half-bit, half-lt}
 
@@ -103,35 +104,49 @@ exempt-lt once i ho hi = pick-by (λ (k : ℕ). k < 2 ^ 32) (eqb i subsystem) (h
 
 -- ---- a palette entry
 
-entry-sound : (p : Palette) (e : ℕ) → entryOk p e ≡ true → SoundEntry p e
-unfolding entryOk
-entry-sound p e t =
-    byTest (eqb (getD (p .stored) e 0) 0)
-    (λ z.
-    let u = simp z at t in
-    let v = and-second (eqb (getD (p .red) e 0) 0) _ u in
-    record {
-      flag = inl (eqb-true _ 0 z);
-      red = λ h. eqb-true _ 0 (and-first (eqb (getD (p .red) e 0) 0) _ u);
-      green = λ h. eqb-true _ 0 (and-first (eqb (getD (p .green) e 0) 0) _ v);
-      blue = λ h. eqb-true _ 0 (and-second (eqb (getD (p .green) e 0) 0) _ v);
-    })
-    (λ z.
-    let n : getD (p .stored) e 0 ≡ 0 → ⊥ = eqb-false _ 0 z in
-    record {
-      flag = inr (eqb-true _ 1 (simp z at t));
-      red = λ h. absurd (n h);
-      green = λ h. absurd (n h);
-      blue = λ h. absurd (n h);
-    })
+-- bit 24 and those above it are the bits of the top byte
+top-bit : (b w : ℕ) → 24 ≤ b → b < 32 → bit b w ≡ bit (b - 24) (laneByte 3 w)
+top-bit b w l h =
+    bit-lane b w ∙ ap₂ (λ (j r : ℕ). bit r (laneByte j w)) (let e : b / 8 ≡ 3 = omega arith in e) (let e : b % 8 ≡ b - 24 = omega arith in e)
 
-sound-entry : (p : Palette) (e : ℕ) → SoundEntry p e → entryOk p e ≡ true
-unfolding entryOk
-sound-entry p e f = go (f .flag)
-  where
-    go : (getD (p .stored) e 0 ≡ 0) ⊎ (getD (p .stored) e 0 ≡ 1) → entryOk p e ≡ true
-    go (inl z) = simp (eq-eqb _ 0 z, eq-eqb _ 0 (f .red z), eq-eqb _ 0 (f .green z), eq-eqb _ 0 (f .blue z))
-    go (inr z) = rw z
+one-bit : (k : ℕ) → 0 < k → bit k 1 ≡ false
+one-bit k h = bit-high 1 k 1 h (omega arith)
+
+one-low : bit 0 1 ≡ true
+unfolding bit
+one-low = refl
+
+flagged-of : (w : ℕ) → isStored w ≡ true → Flagged w
+unfolding isStored laneByte
+flagged-of w t =
+    let z : w / 0x1000000 ≡ 1 = eqb-true (w / 0x1000000) 1 t in
+    let e : laneByte 3 w ≡ 1 = omega (arith, z) in
+    record {
+      flag = top-bit 24 w (omega arith) (omega arith) ∙ ap (bit 0) e ∙ one-low;
+      alone = λ b l h. top-bit b w (omega arith) h ∙ ap (bit (b - 24)) e ∙ one-bit (b - 24) (omega arith);
+    }
+
+of-flagged : (w : ℕ) → w < 2 ^ 32 → Flagged w → isStored w ≡ true
+unfolding isStored laneByte
+of-flagged w hw f =
+    let e : laneByte 3 w ≡ w / 0x1000000 = omega (arith, hw) in
+    eq-eqb (w / 0x1000000) 1
+    (sym e ∙ by-bits 8 (laneByte 3 w) 1 (lane-lt 3 w) (omega arith) (λ k h.
+    let z : k + 24 - 24 ≡ k = omega arith in
+    ap (λ (n : ℕ). bit n (laneByte 3 w)) (sym z)
+    ∙ sym (top-bit (k + 24) w (omega arith) (omega arith))
+    ∙ byTest (eqb k 0)
+    (λ q. let y : k ≡ 0 = eqb-true k 0 q in rw y (f .flag ∙ sym one-low))
+    (λ q. let y : k ≡ 0 → ⊥ = eqb-false k 0 q in f .alone (k + 24) (omega arith) (omega arith) ∙ sym (one-bit k (omega arith)))))
+
+word-sound : (w : ℕ) → wordOk w ≡ true → SoundEntry w
+unfolding wordOk
+word-sound w t = byTest (eqb w 0) (λ z. inl (eqb-true w 0 z)) (λ z. inr (flagged-of w (or-second (eqb w 0) (isStored w) z t)))
+
+sound-word : (w : ℕ) → w < 2 ^ 32 → SoundEntry w → wordOk w ≡ true
+unfolding wordOk
+sound-word w h (inl z) = simp (eq-eqb w 0 z)
+sound-word w h (inr f) = simp (of-flagged w h f) (or-true (eqb w 0))
 
 -- ---- the limits
 
@@ -166,7 +181,7 @@ of-memory n f = simp (eq-eqb (n % 8) 0 (f .eights), le-leb 8 n (f .bytes .0), le
 
 module _ (s : State) (h : Words s) where
   is-sound : isState s ≡ true → IsState s
-  unfolding componentOk addressOk onceOk bankSound rowOk paletteOk
+  unfolding componentOk addressOk onceOk bankSound rowOk paletteOk entryOk
   is-sound e =
       let f = sane s e in
       let ho : s .once ≤ 3 = leb-true (s .once) 3 (f .once) in
@@ -182,11 +197,11 @@ module _ (s : State) (h : Words s) where
             subst (λ (z : Bool). SoundBit (bit b (s .dac .address)) (bit b (s .dac .known)) (bit b 0xFF) z z) (bit-of-zero b)
             (sound-of (s .dac .address) (s .dac .known) 0xFF 0 0 (h .address) (omega arith) (eqb-true _ 0 (f .address)) b hb);
         flags = ho;
-        palette = λ i hi. entry-sound (s .palette) i (every-at (entryOk (s .palette)) entryCount i (f .palette) hi);
+        palette = λ i hi. word-sound _ (every-at (entryOk (s .palette)) entryCount i (f .palette) hi);
       }
 
   sound-is : IsState s → isState s ≡ true
-  unfolding componentOk addressOk onceOk bankSound rowOk paletteOk
+  unfolding componentOk addressOk onceOk bankSound rowOk paletteOk entryOk
   sound-is f =
       let ho = f .flags in
       is-state s (record {
@@ -203,7 +218,7 @@ module _ (s : State) (h : Words s) where
             eq-eqb _ 0
             (of-sound (getD (s .values) i 0) (getD (s .knowns) i 0) (exempt (s .once) i) (bankRow i .reset) (bankRow i .known) (h .knowns i) (exempt-lt (s .once) i (omega arith) hi)
             (λ b hb. rw (exempt-bit (s .once) i b (omega arith) hb) (f .registers i b hi hb))));
-        palette = every-all _ entryCount (λ i hi. sound-entry (s .palette) i (f .palette i hi));
+        palette = every-all _ entryCount (λ i hi. sound-word _ (h .palette i) (f .palette i hi));
       })
 
   pub clauses : (isState s ≡ true) ↔ IsState s

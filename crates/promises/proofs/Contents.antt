@@ -19,7 +19,6 @@ use Rattle.bits.proofs.Lists.{getD-set}
 use Rattle.chip.specs.declared.State.{State}
 use Rattle.chip.specs.declared.Access.{Access}
 use Rattle.chip.specs.declared.Colour.{Colour}
-use Rattle.chip.specs.declared.Palette.{Palette}
 use Rattle.chip.specs.Palette.{entryCount, entryOf}
 use Rattle.chip.specs.Dac.{Paint}
 use Rattle.chip.specs.Aperture.{Put, putAll}
@@ -27,12 +26,13 @@ use Rattle.chip.specs.Patch.{Store, valued, learned, painted, applied, memoryWi
 use Rattle.chip.specs.Place.{placeOf}
 use Rattle.chip.specs.Port.{rowPatch}
 use Rattle.chip.specs.Trace.{World, after}
-use Rattle.chip.proofs.Entries.{Entries, entry-stored}
+use Rattle.chip.proofs.Entries.{entry-stored}
 use Rattle.promises.specs.Good.{Formed, Good}
 use Rattle.promises.specs.Along.{laterOf}
 use Rattle.promises.specs.Reach.{reachAt}
 use Rattle.promises.specs.History.{seenBit, Spot, Real, holds}
 use Rattle.promises.specs.Frame.{SameBit}
+use Rattle.promises.proofs.Stages.{Shaded, paint-shaded}
 use Rattle.promises.proofs.Patches.{patchAt, putsBit, lastPoke, putsEntry}
 use Rattle.promises.proofs.Bank.{stored-lt}
 use Rattle.promises.proofs.Does.{storeFrom, writes, does}
@@ -152,10 +152,11 @@ entry-over : (t : Bool) (c : Colour) (d : Option Colour) → pick t (some c) d �
 entry-over true c d = refl
 entry-over false c d = refl
 
-painted-entry : (o : Option Paint) (p : Palette) (e : ℕ) → Entries p → e < entryCount → entryOf (painted o p) e ≡ Option·getD (putsEntry e o) (entryOf p e)
+painted-entry : (o : Option Paint) (p : List ℕ) (e : ℕ) → Shaded o → length p ≡ entryCount → e < entryCount
+    → entryOf (painted o p) e ≡ Option·getD (putsEntry e o) (entryOf p e)
 unfolding putsEntry
-painted-entry none p e l h = refl
-painted-entry (some x) p e l h = entry-stored p (x .entry) e (x .colour) l h ∙ entry-over (eqb (x .entry) e) (x .colour) (entryOf p e)
+painted-entry none p e s l h = refl
+painted-entry (some x) p e s l h = entry-stored p (x .entry) e (x .colour) s l h ∙ entry-over (eqb (x .entry) e) (x .colour) (entryOf p e)
 
 pub entry-step : (e : ℕ) → e < entryCount → (x : World) (a : Access) → Good x
     → entryOf (after x a .state .palette) e ≡ Option·getD (putsEntry e (patchAt x a .paint)) (entryOf (x .state .palette) e)
@@ -163,4 +164,4 @@ unfolding applied
 entry-step e h x a g =
     let f = g .formed in
     ap (λ (s : State). entryOf (s .palette) e) (after-state x a)
-    ∙ painted-entry (patchAt x a .paint) (x .state .palette) e (record { red = f .red; green = f .green; blue = f .blue; stored = f .stored }) h
+    ∙ painted-entry (patchAt x a .paint) (x .state .palette) e (paint-shaded x a (f .stage)) (f .palette) h

@@ -17,17 +17,18 @@ use Rattle.bits.specs.Word.{inside}
 use Rattle.bits.proofs.Cases.{byTest}
 use Rattle.bits.proofs.Bools.{and-first, and-second, every-at, clash}
 use Rattle.bits.proofs.Single.{by-bits, bit-not, bit-of-zero}
-use Rattle.bits.proofs.Words.{inside-le, beq-true}
+use Rattle.bits.proofs.Words.{beq-true}
 use Rattle.bits.proofs.Lanes.{bit-low, by-lane}
 use Rattle.chip.specs.declared.State.{State}
 use Rattle.chip.specs.declared.Colour.{Colour}
 use Rattle.chip.specs.Bank.{bankRow, screenBase, screenStride, pixelMask, colorMode}
-use Rattle.chip.specs.Palette.{entryOf}
+use Rattle.chip.specs.Palette.{Shades, colourIn, isStored, entryOf}
 use Rattle.chip.specs.View.{baseOf, strideOf, maskOf, notIndexed, unplaced, fixedOf, viewOf}
 use Rattle.chip.specs.Picture.{rowStart, dotByte, ruled, beyond, colourWord, dotEntry, underByte, underAt, laidAt, wordAt, viewWord, wordOf}
 use Rattle.chip.proofs.Computed.{computed}
-use Rattle.promises.specs.Dots.{Indexed, Known, Placed, dotAt, entryAt, Bytes, ByteColours, Ruled}
-use Rattle.promises.proofs.Options.{absurd-put}
+use Rattle.chip.proofs.Entries.{shades-in}
+use Rattle.promises.specs.Dots.{Indexed, Known, Placed, dotAt, entryAt, Ruled}
+use Rattle.promises.proofs.Options.{some-is, absurd-put, picked}
 
 -- ---- rule 1: five bits are 10h exactly where the first four are zero and the fifth is one
 
@@ -133,10 +134,10 @@ record Apart (r g b : ℕ) (w : ℕ) : Type 0 where
   above : 0x00FFFFFF < w
   below : w < 0x02000000
 
-apart : (c : Colour) → Bytes c → Apart (c .red) (c .green) (c .blue) (0x01000000 + c .red * 0x10000 + c .green * 0x100 + c .blue)
+apart : (c : Colour) → Shades c → Apart (c .red) (c .green) (c .blue) (0x01000000 + c .red * 0x10000 + c .green * 0x100 + c .blue)
 apart c f = record { above = omega arith; below = omega (arith, f .red, f .green, f .blue) }
 
-same-colour : (c d : Colour) → Bytes c → Bytes d
+same-colour : (c d : Colour) → Shades c → Shades d
     → 0x01000000 + c .red * 0x10000 + c .green * 0x100 + c .blue ≡ 0x01000000 + d .red * 0x10000 + d .green * 0x100 + d .blue → c ≡ d
 same-colour c d f g e =
     let r : c .red ≡ d .red = omega (arith, e, f .red, f .green, f .blue, g .red, g .green, g .blue) in
@@ -144,11 +145,18 @@ same-colour c d f g e =
     let b : c .blue ≡ d .blue = omega (arith, e, f .red, f .green, f .blue, g .red, g .green, g .blue) in
     ap₂ (λ (x y : ℕ). record { red = x; green = y; blue = c .blue }) r n ∙ ap (λ (x : ℕ). record { red = d .red; green = d .green; blue = x }) b
 
+-- a colour that a word holds is of bytes
+pub entry-shades : (p : List ℕ) (e : ℕ) (c : Colour) → entryOf p e ≡ some c → Shades c
+unfolding entryOf
+entry-shades p e c k =
+    let z = picked (isStored (getD p e 0)) (some (colourIn (getD p e 0))) c k in
+    subst Shades (some-is (z .1)) (shades-in (getD p e 0))
+
 -- the rules, from what each test means
 module _ (s : State) (m : List ℕ) (i : ℕ) where
   by-rules : (a b c : Bool) (o : Option Colour)
       → ((a ≡ false) ↔ Indexed s) → ((b ≡ false) ↔ Placed s) → ((c ≡ true) ↔ (length m ≤ dotAt s i)) → entryAt s m i ≡ o
-      → ((k : Colour) → o ≡ some k → Bytes k) → Ruled s m i (firstRule a b c o)
+      → ((k : Colour) → o ≡ some k → Shades k) → Ruled s m i (firstRule a b c o)
   by-rules true b c o p q r e y =
       record {
         one = ((λ z f. clash true refl (p .1 f)), (λ f. refl));
@@ -217,10 +225,10 @@ module _ (s : State) (m : List ℕ) (i : ℕ) where
   word-is =
       ap (ruled (fixedOf s)) (ap₂ (λ (k : ℕ) (o : Option Colour). pick (leb (length m) k) 0x02000000 (colourWord o)) byte-is entry-is) ∙ fixed-is _
 
-  pub rules : ByteColours (s .palette) → Ruled s m i (wordOf s m i)
+  pub rules : Ruled s m i (wordOf s m i)
   unfolding entryAt
-  rules y =
+  rules =
       subst (Ruled s m i) (sym word-is)
       (by-rules (notIndexed s) (unplaced s) (leb (length m) (dotAt s i)) (entryAt s m i)
       (indexed-of s, of-indexed s) (placed-of s, of-placed s) (leb-true (length m) (dotAt s i), le-leb (length m) (dotAt s i)) refl
-      (λ k e. y (inside (getD m (dotAt s i) 0) (getD (s .values) pixelMask 0 % 256)) (let z = inside-le (getD m (dotAt s i) 0) (getD (s .values) pixelMask 0 % 256) in omega arith) k e))
+      (λ k e. entry-shades (s .palette) (inside (getD m (dotAt s i) 0) (getD (s .values) pixelMask 0 % 256)) k e))

@@ -2,6 +2,7 @@
 -- The tests of refusal 1 one by one, each by the part of the patch that it asks for. Assumes nothing.
 use Prim.Native.Nat.{ℕ, _<_}
 use mathlib.Core.Bool.{Bool, true, false}
+use mathlib.Core.List.{List}
 use mathlib.Core.Option.{Option, none, some, Option·getD}
 use mathlib.Core.Path.{_≡_, sym, _∙_, subst}
 use native.Mathlib.Omega.{arith}
@@ -12,8 +13,7 @@ use Rattle.bits.proofs.Cases.{pick-by, pick-when}
 use Rattle.chip.specs.declared.State.{State}
 use Rattle.chip.specs.declared.Access.{Access}
 use Rattle.chip.specs.declared.Dac.{Dac}
-use Rattle.chip.specs.declared.Palette.{Palette}
-use Rattle.chip.specs.Palette.{paletteOk}
+use Rattle.chip.specs.Palette.{entryCount, storeEntry, paletteOk}
 use Rattle.chip.specs.Bank.{bankCount}
 use Rattle.chip.specs.Dac.{Paint, afterFetch}
 use Rattle.chip.specs.Patch.{Store, Patch, valued, learned, painted, applied}
@@ -22,8 +22,8 @@ use Rattle.chip.specs.Port.{rowPatch, keptFrom}
 use Rattle.chip.specs.Access.{isWrite}
 use Rattle.chip.specs.Sound.{onceOk, bankSound}
 use Rattle.chip.specs.Trace.{World}
-use Rattle.chip.proofs.Entries.{Entries, entries-kept, palette-kept}
-use Rattle.promises.specs.Good.{Formed, Good}
+use Rattle.chip.proofs.Entries.{palette-kept}
+use Rattle.promises.specs.Good.{Stage, Formed, Good}
 use Rattle.promises.specs.Reach.{reachAt}
 use Rattle.promises.specs.History.{isAim, isData}
 use Rattle.promises.proofs.Patches.{patchAt}
@@ -31,6 +31,7 @@ use Rattle.promises.proofs.Sane.{Sane, sane}
 use Rattle.promises.proofs.Bank.{bank-kept, once-kept}
 use Rattle.promises.proofs.Dacs.{Settled, paint-advances, advanced-settled, aimed-settled, lane-byte-lt}
 use Rattle.promises.proofs.Does.{storeFrom, onceFrom, stepped, writes, does}
+use Rattle.promises.proofs.Stages.{Shaded, stage-after, paint-shaded}
 use Rattle.promises.proofs.DataParts.{data-parts}
 use Rattle.promises.proofs.Sites.{names, address-there}
 
@@ -67,19 +68,17 @@ module _ (s : State) (z : Sane s) (f : Formed s) where
   learned-length none = f .knowns
   learned-length (some x) = length-set (s .knowns) (x .row) _ ∙ f .knowns
 
-  record Coloured (p : Palette) : Type 0 where
-    entries : Entries p
+  record Coloured (p : List ℕ) : Type 0 where
+    entries : length p ≡ entryCount
     ok : paletteOk p ≡ true
 
-  entries-now : Entries (s .palette)
-  entries-now = record { red = f .red; green = f .green; blue = f .blue; stored = f .stored }
-
-  painted-kept : (o : Option Paint) → Coloured (painted o (s .palette))
-  painted-kept none = record { entries = entries-now; ok = z .palette }
-  painted-kept (some x) =
+  painted-kept : (o : Option Paint) → Shaded o → Coloured (painted o (s .palette))
+  unfolding storeEntry
+  painted-kept none h = record { entries = f .palette; ok = z .palette }
+  painted-kept (some x) h =
       record {
-        entries = entries-kept (s .palette) (x .entry) (x .colour) entries-now;
-        ok = palette-kept (s .palette) (x .entry) (x .colour) entries-now (z .palette);
+        entries = length-set (s .palette) (x .entry) _ ∙ f .palette;
+        ok = palette-kept (s .palette) (x .entry) (x .colour) h (f .palette) (z .palette);
       }
 
   still-settled : Settled (s .dac)
@@ -87,10 +86,11 @@ module _ (s : State) (z : Sane s) (f : Formed s) where
 
   -- ---- the whole
 
-  applied-kept : (p : Patch) → Banked (p .store) (p .once) → Settled (Option·getD (p .dac) (s .dac)) → Kept (applied p s)
+  applied-kept : (p : Patch) → Banked (p .store) (p .once) → Settled (Option·getD (p .dac) (s .dac)) → Stage (Option·getD (p .dac) (s .dac)) → Shaded (p .paint)
+      → Kept (applied p s)
   unfolding applied
-  applied-kept p b d =
-      let c = painted-kept (p .paint) in
+  applied-kept p b d g h =
+      let c = painted-kept (p .paint) h in
       record {
         sane =
             record {
@@ -106,11 +106,9 @@ module _ (s : State) (z : Sane s) (f : Formed s) where
             record {
               values = valued-length (p .store);
               knowns = learned-length (p .store);
-              red = c .entries .red;
-              green = c .entries .green;
-              blue = c .entries .blue;
-              stored = c .entries .stored;
+              palette = c .entries;
               address = d .byte;
+              stage = g;
             };
       }
 
@@ -150,3 +148,4 @@ module _ (x : World) (a : Access) (g : Good x) where
       (aimed-settled _ (lane-byte-lt 0 (a .word)))
       (pick-when (λ (o : Option Dac). Settled (Option·getD o (x .state .dac))) (isData x a) _ none
       (λ q. stepped-settled (x .state) z f a (data-known q)) (λ q. still-settled (x .state) z f))))
+      (stage-after x a (f .stage)) (paint-shaded x a (f .stage))

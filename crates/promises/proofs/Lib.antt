@@ -6,6 +6,7 @@ pub mod Moved
 pub mod Bank
 pub mod Dacs
 pub mod Does
+pub mod Stages
 pub mod DataParts
 pub mod Sites
 pub mod Places
@@ -50,3 +51,7 @@ pub mod Promise6Altered
 pub mod Promise7Depends
 pub mod Looks
 pub mod Promise9Looks
+pub mod PaletteWorked
+pub mod PaletteShared
+pub mod PaletteStep
+pub mod Promise10Palette

@@ -7,13 +7,15 @@ use mathlib.Core.Option.{Option, none, some}
 use mathlib.Core.Path.{_≡_, refl, sym, ap, ap₂, _∙_, subst}
 use borrow.Author.Tests.{eq-eqb}
 use lib.ListN.{getD, length, replicate}
+use Rattle.bits.specs.Choose.{pick}
 use Rattle.bits.specs.Bit.{bit}
 use Rattle.bits.proofs.Cases.{byTest}
 use Rattle.bits.proofs.Bools.{and-first, and-second}
+use Rattle.bits.proofs.Lists.{zeros-at}
 use Rattle.chip.specs.declared.State.{State}
 use Rattle.chip.specs.declared.Access.{Access}
 use Rattle.chip.specs.declared.Place.the-variants.{Window}
-use Rattle.chip.specs.Palette.{entryCount, emptyPalette, entryOf}
+use Rattle.chip.specs.Palette.{entryCount, emptyPalette, colourIn, isStored, entryOf}
 use Rattle.chip.specs.Place.{placeOf}
 use Rattle.chip.specs.Access.{isWrite}
 use Rattle.chip.specs.State.{resetState}
@@ -41,15 +43,9 @@ pub opened-holds : (w h : ℕ) (m p : List ℕ) → Openable w h m p → (q : Sp
 opened-holds w h m p o q = ap (λ (s : State). holds s q) (opens w h m p (o .accepted) .state) ∙ reset-holds w h (length m) q
 
 -- an empty palette has no entry
-pub zeros-at : (n k : ℕ) → _≡_ {A = ℕ} (getD (replicate n 0) k 0) 0
-zeros-at zero zero = refl
-zeros-at zero (suc k) = refl
-zeros-at (suc n) zero = refl
-zeros-at (suc n) (suc k) = zeros-at n k
-
 pub reset-entry : (w h f e : ℕ) → entryOf (resetState w h f .palette) e ≡ none
-unfolding resetState emptyPalette entryOf
-reset-entry w h f e = simp (zeros-at entryCount e)
+unfolding resetState emptyPalette entryOf isStored
+reset-entry w h f e = ap (λ (v : ℕ). pick (isStored v) (some (colourIn v)) none) (zeros-at entryCount e)
 
 -- ---- a register's bit
 

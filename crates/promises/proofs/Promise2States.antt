@@ -8,6 +8,7 @@ use Rattle.bits.specs.Bit.{bit}
 use Rattle.bits.proofs.Bools.{and-true}
 use Rattle.bits.proofs.Single.{bit-of-zero}
 use Rattle.bits.proofs.Words.{clear, bit-outside, clear-not}
+use Rattle.bits.proofs.Lists.{zeros-at}
 use Rattle.chip.specs.declared.Access.{Access}
 use Rattle.chip.specs.State.{resetState}
 use Rattle.chip.specs.Bank.{bankCount, bankRow}
@@ -20,7 +21,7 @@ use Rattle.chip.proofs.Tables.{bank-rule, resets-at, knowns-at}
 use Rattle.promises.specs.Good.{Fresh, Good, Openable}
 use Rattle.promises.specs.Refusals.{Words}
 use Rattle.promises.specs.Reset.{IsReset}
-use Rattle.promises.proofs.Origins.{reset-holds, zeros-at, reset-entry}
+use Rattle.promises.proofs.Origins.{reset-holds, reset-entry}
 use Rattle.promises.proofs.WordsKept.{words-kept, opened-words}
 use Rattle.promises.proofs.Worlds.{reset-formed, opens, good-kept, good-along, opened-good}
 
@@ -72,7 +73,7 @@ reset-means w h f =
       component = refl;
       staged = record { count = refl; red = refl; green = refl };
       palette = reset-entry w h f;
-      bytes = λ e. (zeros-at entryCount e, zeros-at entryCount e, zeros-at entryCount e);
+      words = zeros-at entryCount;
       formed = reset-formed w h f;
     }
 

@@ -1,22 +1,25 @@
 -- Promise 4, on any world at all: what an accepted read or look shows, bit by bit, at each place that it may lead to; it does not depend on the picture.
 -- From the laws of Shown; a picture is looked at for its length alone. Assumes nothing.
-use Prim.Native.Nat.{ℕ, _+_, _/_, _%_, _<_}
-use mathlib.Core.Bool.{false}
+use Prim.Native.Nat.{ℕ, _+_, _*_, _/_, _%_, _<_}
+use mathlib.Core.Bool.{Bool, true, false}
 use mathlib.Core.List.{List}
 use mathlib.Core.Logic.{_↔_}
-use mathlib.Core.Option.{none, some}
-use mathlib.Core.Path.{_≡_, refl}
-use borrow.Author.Tests.{eqb-true, ne-eqb}
+use mathlib.Core.Option.{Option, none, some}
+use mathlib.Core.Path.{_≡_, refl, sym, ap, _∙_}
+use native.Mathlib.Omega.{arith}
+use borrow.Author.Tests.{eqb-true, eq-eqb, ne-eqb}
 use lib.Dec.{eqb}
 use lib.ListN.{getD, length}
 use Rattle.bits.specs.Choose.{pick}
 use Rattle.bits.specs.Bit.{bit}
 use Rattle.bits.proofs.Cases.{byTest}
+use Rattle.bits.proofs.Bools.{or-second, every-at}
 use Rattle.chip.specs.declared.State.{State}
 use Rattle.chip.specs.declared.Access.{Access}
-use Rattle.chip.specs.declared.Palette.{Palette}
+use Rattle.chip.specs.declared.Colour.{Colour}
 use Rattle.chip.specs.declared.Place.the-variants.{Register, Address, PaletteData, Window, Blank}
-use Rattle.chip.specs.Palette.{entryOf}
+use Rattle.chip.specs.Palette.{entryCount, Shades, colouredWord, colourIn, isStored, entryOf, wordOk, entryOk, paletteOk}
+use Rattle.chip.specs.Sound.{isState}
 use Rattle.chip.specs.Step.{settled, refused, doneBy, givenBy, stepOf}
 use Rattle.chip.specs.Refusal.{statusOf}
 use Rattle.chip.specs.Trace.{World, step}
@@ -24,7 +27,9 @@ use Rattle.promises.specs.Good.{Good}
 use Rattle.promises.specs.Places.{Leads}
 use Rattle.promises.specs.History.{Seeing, seenBit, shows, partBit, spot, holds}
 use Rattle.promises.specs.Frame.{laneAt}
-use Rattle.promises.proofs.Options.{absurd-put}
+use Rattle.chip.proofs.Entries.{coloured-stored, coloured-back, stored-back}
+use Rattle.promises.proofs.Options.{some-is, absurd-put}
+use Rattle.promises.proofs.Sane.{sane}
 use Rattle.promises.proofs.Places.{leads-place}
 use Rattle.promises.proofs.Shown.{shows-register, shows-blank, shows-address, shows-palette, shows-memory}
 
@@ -54,19 +59,37 @@ module _ (x : World) (a : Access) (b : ℕ) (q : Seeing x a) (hb : b < 32) where
       ≡ pick (bit (b / 8) (a .enables)) (some (bit (b % 8) (getD (x .memory) (a .offset + laneAt (getD (x .state .values) i 0) (b / 8)) 0))) none
   memory-read g i d = shows-memory x a b q hb g i (leads-place (x .state) a (Window i) d)
 
--- ---- an entry as a state holds it: never stored exactly where its flag is 0, else its three bytes
+-- ---- an entry as a state holds it (02, C-15): nothing where its top byte is not 1, so of a state where its word is 0 ..
 
-pub entry-unstored : (p : Palette) (e : ℕ) → (entryOf p e ≡ none) ↔ (getD (p .stored) e 0 ≡ 0)
-unfolding entryOf
+pub entry-unstored : (p : List ℕ) (e : ℕ) → (entryOf p e ≡ none) ↔ (getD p e 0 / 0x1000000 ≡ 1 → ⊥)
+unfolding entryOf isStored
 entry-unstored p e = (
-  (λ n. byTest (eqb (getD (p .stored) e 0) 0) (λ t. eqb-true _ 0 t) (λ t. absurd-put (entryOf p e) (record { red = getD (p .red) e 0; green = getD (p .green) e 0; blue = getD (p .blue) e 0 }) n (simp t))),
-  (λ z. simp z),
+  (λ n z. absurd-put (entryOf p e) (colourIn (getD p e 0)) n (ap held (eq-eqb (getD p e 0 / 0x1000000) 1 z))),
+  (λ n. ap held (ne-eqb (getD p e 0 / 0x1000000) 1 n)),
 )
+  where
+    held : Bool → Option Colour
+    held t = pick t (some (colourIn (getD p e 0))) none
 
-pub entry-stored : (p : Palette) (e : ℕ) → (getD (p .stored) e 0 ≡ 0 → ⊥)
-    → entryOf p e ≡ some (record { red = getD (p .red) e 0; green = getD (p .green) e 0; blue = getD (p .blue) e 0 })
+pub entry-zero : (s : State) (e : ℕ) → isState s ≡ true → e < entryCount → (entryOf (s .palette) e ≡ none) ↔ (getD (s .palette) e 0 ≡ 0)
+unfolding paletteOk entryOk wordOk isStored
+entry-zero s e k h = (
+  (λ n. byTest (eqb (getD (s .palette) e 0) 0) (λ z. eqb-true _ 0 z) (λ z. absurd (entry-unstored (s .palette) e .0 n (eqb-true _ 1 (or-second (eqb (getD (s .palette) e 0) 0) (isStored (getD (s .palette) e 0)) z tested))))),
+  (λ z. entry-unstored (s .palette) e .1 (λ y. omega (arith, y, z))),
+)
+  where
+    tested : entryOk (s .palette) e ≡ true
+    tested = every-at (entryOk (s .palette)) entryCount e (sane s k .palette) h
+
+-- .. and a colour exactly where it is 01RRGGBBh, the word that rule 5 gives the entry's dots
+pub entry-stored : (p : List ℕ) (e : ℕ) (c : Colour) → Shades c → (entryOf p e ≡ some c) ↔ (getD p e 0 ≡ 0x01000000 + c .red * 0x10000 + c .green * 0x100 + c .blue)
 unfolding entryOf
-entry-stored p e n = simp (ne-eqb (getD (p .stored) e 0) 0 n)
+entry-stored p e c h = (
+  (λ k. byTest (isStored (getD p e 0))
+      (λ t. sym (stored-back (getD p e 0) t) ∙ ap colouredWord (some-is (simp t at k)))
+      (λ t. absurd-put none c refl (simp t at k))),
+  (λ z. rw z (simp (coloured-stored c h) (ap some (coloured-back c h)))),
+)
 
 -- ---- the picture
 

@@ -1,6 +1,6 @@
 -- Promise 5, demand 3 on the definitions. After an opening and any list of reads, writes and looks, refused ones among them, the picture equals the picture drawn afresh, each
--- dot's word is the one of 01's rules, and each changed count is the number of dots that differ. From the laws of Pictures and Dots; a stored colour is of bytes
--- because each was written as a byte. Assumes nothing.
+-- dot's word is the one of 01's rules, and each changed count is the number of dots that differ. From the laws of Pictures and Dots.
+-- Assumes nothing.
 use Prim.Native.Nat.{ℕ, zero, suc, _+_, _*_, _<_}
 use mathlib.Core.List.{List, [], _∷_}
 use mathlib.Core.Path.{_≡_, refl, sym, ap, ap₂, _∙_, subst}
@@ -16,11 +16,9 @@ use Rattle.chip.specs.Picture.{diffs, drawnFrom, drawn, wordOf}
 use Rattle.chip.specs.Trace.{World, opened, step, after, run}
 use Rattle.promises.specs.Good.{Openable}
 use Rattle.promises.specs.Dots.{ByteColours, Ruled, dotsChanged}
-use Rattle.promises.proofs.Widths.{stored-lt}
 use Rattle.promises.proofs.Worlds.{memory-length, picture-length}
 use Rattle.promises.proofs.Pictures.{right-along, opened-right, counted}
-use Rattle.promises.proofs.Dots.{rules}
-use Rattle.promises.proofs.Promise4Origins.{entry-exactly}
+use Rattle.promises.proofs.Dots.{entry-shades, rules}
 
 pub picture-right : (w h : ℕ) (m p : List ℕ) → openOf w h m p .answer .status ≡ 0 → (l : List Access)
     → run (opened w h m p) l .picture ≡ drawn (run (opened w h m p) l .state) (run (opened w h m p) l .memory)
@@ -54,23 +52,17 @@ dot-of : (s : State) (m : List ℕ) (i : ℕ) → i < length (drawn s m) → get
 unfolding drawn
 dot-of s m i h = drawn-at (wordOf s m) 0 (s .width * s .height) i h ∙ ap (wordOf s m) (let e : 0 + i ≡ i = omega arith in e)
 
--- the word of a dot, of any state whose stored entries are of bytes, is the one of 01's rules
-pub word-ruled : (s : State) (m : List ℕ) (i : ℕ) → ByteColours (s .palette) → Ruled s m i (wordOf s m i)
+-- what an entry holds are bytes, whatever word it is (02, C-15)
+pub byte-colours : (p : List ℕ) → ByteColours p
+byte-colours p e h c k = entry-shades p e c k
+
+-- the word of a dot, of any state, is the one of 01's rules
+pub word-ruled : (s : State) (m : List ℕ) (i : ℕ) → Ruled s m i (wordOf s m i)
 word-ruled = rules
 
 module _ (w h : ℕ) (m p : List ℕ) (o : Openable w h m p) (l : List Access) where
   abbrev x : World
   x = run (opened w h m p) l
-
-  -- what is stored are bytes
-  pub byte-colours : ByteColours (x .state .palette)
-  byte-colours e he c f =
-      let y = entry-exactly w h m p o l e he c .0 f .load in
-      record {
-        red = subst (λ (k : ℕ). k < 256) (sym (y .first .value)) (stored-lt _ _);
-        green = subst (λ (k : ℕ). k < 256) (sym (y .second .value)) (stored-lt _ _);
-        blue = subst (λ (k : ℕ). k < 256) (sym (y .third .value)) (stored-lt _ _);
-      }
 
   -- so after an opening and any list of accesses the word of each dot is
   pub dot-ruled : (i : ℕ) → i < length (x .picture) → Ruled (x .state) (x .memory) i (getD (x .picture) i 0)
@@ -78,4 +70,4 @@ module _ (w h : ℕ) (m p : List ℕ) (o : Openable w h m p) (l : List Access) w
       let e = picture-right w h m p (o .accepted) l in
       subst (Ruled (x .state) (x .memory) i)
       (sym (ap (λ (k : List ℕ). getD k i 0) e ∙ dot-of (x .state) (x .memory) i (omega (arith, ap length e))))
-      (rules (x .state) (x .memory) i byte-colours)
+      (rules (x .state) (x .memory) i)

@@ -1,4 +1,4 @@
--- What the registers hold, and what is known of them and of the address, are words after every opening, and stay words along any list of accesses.
+-- What the registers hold, what is known of them and of the address, and the palette's entries, are words after every opening, and stay words along any list of accesses.
 -- The tables' rows by one computed test; a write stores a word's bits. Assumes nothing.
 use Prim.Native.Nat.{ℕ, zero, suc, _^_, _<_}
 use mathlib.Core.Bool.{Bool, true, _&&_}
@@ -8,19 +8,21 @@ use mathlib.Core.Path.{_≡_, refl, sym, ap, _∙_, subst}
 use native.Mathlib.Omega.{arith}
 use borrow.Author.Tests.{leb-true}
 use lib.Dec.{leb}
-use lib.ListN.{getD, set}
+use lib.ListN.{getD}
 use Rattle.bits.specs.Choose.{everyIn}
 use Rattle.bits.specs.Word.{full, merged}
 use Rattle.bits.proofs.Cases.{byTest, pick-by}
 use Rattle.bits.proofs.Bools.{and-first, and-second}
+use Rattle.bits.proofs.Lists.{set-lt, zeros-at}
 use Rattle.bits.proofs.Words.{inside-le, outside-lt, joined-lt}
 use Rattle.chip.specs.declared.State.{State}
 use Rattle.chip.specs.declared.Dac.{Dac}
 use Rattle.chip.specs.declared.Access.{Access}
 use Rattle.chip.specs.Row.{Row, absent}
 use Rattle.chip.specs.Bank.{bankRows, bankRow}
-use Rattle.chip.specs.Dac.{resetDac}
-use Rattle.chip.specs.Patch.{Store, valued, learned, applied}
+use Rattle.chip.specs.Palette.{entryCount, emptyPalette, storeEntry}
+use Rattle.chip.specs.Dac.{Paint, resetDac}
+use Rattle.chip.specs.Patch.{Store, valued, learned, painted, applied}
 use Rattle.chip.specs.Place.{placeOf}
 use Rattle.chip.specs.Port.{rowPatch}
 use Rattle.chip.specs.State.{resetState}
@@ -33,6 +35,8 @@ use Rattle.promises.specs.History.{isAim, isData}
 use Rattle.promises.specs.Loads.{disturbs}
 use Rattle.promises.specs.Refusals.{Words}
 use Rattle.promises.proofs.Bank.{stored-lt}
+use Rattle.promises.proofs.Patches.{patchAt}
+use Rattle.promises.proofs.Stages.{Shaded, paint-shaded}
 use Rattle.promises.proofs.Does.{storeFrom, writes, does}
 use Rattle.promises.proofs.Worlds.{after-state, good-kept, opens, opened-good}
 use Rattle.promises.proofs.Only.{aim-after, data-after, calm-after}
@@ -62,22 +66,16 @@ row-words i =
     (omega arith, omega arith)
 
 reset-words : (w h f : ℕ) → Words (resetState w h f)
-unfolding resetState resetDac
+unfolding resetState resetDac emptyPalette
 reset-words w h f =
     record {
       values = λ i. subst (λ (v : ℕ). v < 2 ^ 32) (sym (resets-at i)) (row-words i .0);
       knowns = λ i. subst (λ (v : ℕ). v < 2 ^ 32) (sym (knowns-at i)) (row-words i .1);
+      palette = λ e. omega (arith, zeros-at entryCount e);
       address = omega arith;
     }
 
 -- ---- after an access
-
-set-lt : (l : List ℕ) (i v b : ℕ) → ((k : ℕ) → getD l k 0 < b) → v < b → (k : ℕ) → getD (set l i v) k 0 < b
-set-lt [] i v b f h k = f k
-set-lt (x ∷ l) zero v b f h zero = h
-set-lt (x ∷ l) zero v b f h (suc k) = f (suc k)
-set-lt (x ∷ l) (suc i) v b f h zero = f zero
-set-lt (x ∷ l) (suc i) v b f h (suc k) = set-lt l i v b (λ j. f (suc j)) h k
 
 pub merged-lt : (v w m : ℕ) → m < 2 ^ 32 → merged v w m < 2 ^ 32
 unfolding merged
@@ -93,6 +91,11 @@ module _ (s : State) (a : Access) (h : Words s) where
   unfolding rowPatch
   knowns-from none k = h .knowns k
   knowns-from (some i) k = set-lt (s .knowns) i _ (2 ^ 32) (h .knowns) (joined-lt _ _ (h .knowns i) (stored-lt (s .once) i (a .enables) (a .word))) k
+
+  palette-from : (o : Option Paint) → Shaded o → (k : ℕ) → getD (painted o (s .palette)) k 0 < 2 ^ 32
+  unfolding storeEntry
+  palette-from none g k = h .palette k
+  palette-from (some x) g k = set-lt (s .palette) (x .entry) _ (2 ^ 32) (h .palette) (omega (arith, g .red, g .green, g .blue)) k
 
 known-after : (x : World) (a : Access) → Good x → Words (x .state) → after x a .state .dac .known < 2 ^ 32
 unfolding disturbs
@@ -116,6 +119,7 @@ words-kept x a g h =
       knowns = λ k.
           subst (λ (l : List ℕ). getD l k 0 < 2 ^ 32) (sym (ap (λ (s : State). s .knowns) e ∙ ap (λ (o : Option Store). learned o (x .state .knowns)) (z .store)))
           (pick-by (λ (o : Option Store). getD (learned o (x .state .knowns)) k 0 < 2 ^ 32) (writes x a) _ none (knowns-from (x .state) a h (reachAt (placeOf (x .state) a) .row) k) (h .knowns k));
+      palette = λ k. subst (λ (l : List ℕ). getD l k 0 < 2 ^ 32) (sym (ap (λ (s : State). s .palette) e)) (palette-from (x .state) a h (patchAt x a .paint) (paint-shaded x a (g .formed .stage)) k);
       address = known-after x a g h;
     }
 

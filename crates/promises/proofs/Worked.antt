@@ -1,14 +1,15 @@
 -- 01's values and the small cases hold of the definitions as they stand, refusal 1 tested at every access.
 -- After an opening the scan of refusal 1 passes, so an access is what it is without the scan; the cases without it are computed. Assumes nothing.
-use Prim.Native.Nat.{ℕ, zero, suc, _*_, _<_}
+use Prim.Native.Nat.{ℕ, _*_}
 use mathlib.Core.Bool.{true}
 use mathlib.Core.List.{List, [], _∷_}
 use mathlib.Core.Path.{_≡_, refl, ap, _∙_}
 use native.Mathlib.Omega.{arith}
 use borrow.Author.Tests.{eqb-true}
-use lib.ListN.{getD, replicate, length-replicate}
+use lib.ListN.{replicate, length-replicate}
 use Rattle.bits.specs.Choose.{everyIn}
 use Rattle.bits.proofs.Bools.{and-first, and-second, and-both}
+use Rattle.bits.proofs.Lists.{zeros-at}
 use Rattle.chip.specs.declared.State.{State}
 use Rattle.chip.specs.declared.Access.{Access}
 use Rattle.chip.specs.Refusal.{accessLines, laterStatus, statusOf, openingStatus}
@@ -17,9 +18,9 @@ use Rattle.chip.specs.Step.{Outcome, stepOf, sureOf}
 use Rattle.chip.specs.Trace.{World, after, run}
 use Rattle.chip.specs.Case.{Case, start, lentOr, meets, agrees, holds, sureStep, sureRun, fits, surely}
 use Rattle.chip.specs.Values.{values}
-use Rattle.chip.specs.Readings.{misread, palettes, widths, glances, refusals, words, lanes, pictures}
+use Rattle.chip.specs.Readings.{misread, palettes, widths, entryWords, glances, refusals, words, lanes, pictures}
 use Rattle.chip.proofs.Computed.{computed}
-use Rattle.chip.proofs.Values.{values-computed, misread-computed, palettes-computed, widths-computed, glances-computed, refusals-computed, words-computed, lanes-computed, pictures-computed}
+use Rattle.chip.proofs.Values.{values-computed, misread-computed, palettes-computed, widths-computed, entry-words-computed, glances-computed, refusals-computed, words-computed, lanes-computed, pictures-computed}
 use Rattle.promises.specs.Good.{Good, Openable}
 use Rattle.promises.proofs.Promise1Refusals.{opening-status}
 use Rattle.promises.proofs.Worlds.{good-kept, good-along, opened-good}
@@ -39,11 +40,6 @@ sure-run x (a ∷ l) g =
 
 -- ---- a case
 
-zeros : (n k : ℕ) → getD (replicate n 0) k 0 < 256
-zeros zero k = omega arith
-zeros (suc n) zero = omega arith
-zeros (suc n) (suc k) = zeros n k
-
 case-opens : (c : Case) → fits c ≡ true → Openable (c .width) (c .height) (replicate 16 0) (replicate (c .width * c .height) 0)
 unfolding fits
 case-opens c t =
@@ -51,7 +47,7 @@ case-opens c t =
       accepted =
           opening-status (c .width) (c .height) (replicate 16 0) (replicate (c .width * c .height) 0)
           ∙ ap (openingStatus (c .width) (c .height) 16) (length-replicate {A = ℕ} (c .width * c .height) 0) ∙ eqb-true _ 0 t;
-      bytes = zeros 16;
+      bytes = λ k. omega (arith, zeros-at 16 k);
     }
 
 case-holds : (c : Case) → fits c ≡ true → holds c ≡ surely c
@@ -89,6 +85,10 @@ palettes-hold = all-hold palettes refl palettes-computed
 pub widths-hold : everyIn holds widths ≡ true
 unfolding computed widths
 widths-hold = all-hold widths refl widths-computed
+
+pub entry-words-hold : everyIn holds entryWords ≡ true
+unfolding computed entryWords
+entry-words-hold = all-hold entryWords refl entry-words-computed
 
 pub glances-hold : everyIn holds glances ≡ true
 unfolding computed glances

@@ -125,11 +125,9 @@ reset-formed w h f =
     record {
       values = length-map bankRows (λ (r : Row). r .reset) ∙ bank-length;
       knowns = length-map bankRows (λ (r : Row). r .known) ∙ bank-length;
-      red = length-replicate {A = ℕ} entryCount 0;
-      green = length-replicate {A = ℕ} entryCount 0;
-      blue = length-replicate {A = ℕ} entryCount 0;
-      stored = length-replicate {A = ℕ} entryCount 0;
+      palette = length-replicate {A = ℕ} entryCount 0;
       address = omega arith;
+      stage = record { red = omega arith; green = omega arith };
     }
 
 -- the tables at reset pass every test that does not ask for the panel or for memory

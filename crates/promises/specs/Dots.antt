@@ -11,10 +11,9 @@ use Rattle.bits.specs.Choose.{pick}
 use Rattle.bits.specs.Bit.{bit}
 use Rattle.bits.specs.Word.{inside}
 use Rattle.chip.specs.declared.State.{State}
-use Rattle.chip.specs.declared.Palette.{Palette}
 use Rattle.chip.specs.declared.Colour.{Colour}
 use Rattle.chip.specs.Bank.{bankRow, screenBase, screenStride, pixelMask, colorMode}
-use Rattle.chip.specs.Palette.{entryCount, entryOf}
+use Rattle.chip.specs.Palette.{entryCount, Shades, entryOf}
 
 -- rule 1 does not apply: RDColorMode is pixel format 0 (bits 0 to 3) with the GUI bit (4) set
 pub record Indexed (s : State) : Type 0 where
@@ -40,15 +39,9 @@ dotAt s i =
 unfoldable pub entryAt : State → List ℕ → ℕ → Option Colour
 entryAt s m i = entryOf (s .palette) (inside (getD m (dotAt s i) 0) (getD (s .values) pixelMask 0 % 256))
 
--- a colour of bytes
-pub record Bytes (c : Colour) : Type 0 where
-  pub red : c .red < 256
-  pub green : c .green < 256
-  pub blue : c .blue < 256
-
--- every stored entry has one
-abbrev pub ByteColours : Palette → Type 0
-ByteColours p = (e : ℕ) → e < entryCount → (c : Colour) → entryOf p e ≡ some c → Bytes c
+-- every stored entry has a colour of bytes
+abbrev pub ByteColours : List ℕ → Type 0
+ByteColours p = (e : ℕ) → e < entryCount → (c : Colour) → entryOf p e ≡ some c → Shades c
 
 -- what word w of dot i says, each exactly where its rule is the first that applies
 pub record Ruled (s : State) (m : List ℕ) (i w : ℕ) : Type 0 where
@@ -56,7 +49,7 @@ pub record Ruled (s : State) (m : List ℕ) (i w : ℕ) : Type 0 where
   pub two : (w ≡ 0x05000000) ↔ (Indexed s × (Placed s → ⊥))
   pub three : (w ≡ 0x02000000) ↔ (Indexed s × Placed s × (length m ≤ dotAt s i))
   pub four : (w ≡ 0x04000000) ↔ (Indexed s × Placed s × (dotAt s i < length m) × (entryAt s m i ≡ none))
-  pub five : (c : Colour) → Bytes c
+  pub five : (c : Colour) → Shades c
       → (w ≡ 0x01000000 + c .red * 0x10000 + c .green * 0x100 + c .blue) ↔ (Indexed s × Placed s × (dotAt s i < length m) × (entryAt s m i ≡ some c))
 
 -- how many of the first n numbers pass a test

@@ -6,6 +6,7 @@ use mathlib.Core.Path.{_≡_}
 use lib.ListN.{getD, length, replicate}
 use Rattle.chip.specs.declared.State.{State}
 use Rattle.chip.specs.declared.Access.{Access}
+use Rattle.chip.specs.declared.Dac.{Dac}
 use Rattle.chip.specs.Bank.{bankCount}
 use Rattle.chip.specs.Palette.{entryCount}
 use Rattle.chip.specs.Sound.{isState}
@@ -14,15 +15,18 @@ use Rattle.chip.specs.State.{resetState}
 use Rattle.chip.specs.Step.{openOf}
 use Rattle.chip.specs.Trace.{World, opened}
 
--- a state as its type has it: the arrays' lengths, and an address that is a byte
+-- staged components are bytes
+pub record Stage (d : Dac) : Type 0 where
+  pub red : d .red < 256
+  pub green : d .green < 256
+
+-- a state as its type has it: the arrays' lengths, and an address and staged components that are bytes
 pub record Formed (s : State) : Type 0 where
   pub values : length (s .values) ≡ bankCount
   pub knowns : length (s .knowns) ≡ bankCount
-  pub red : length (s .palette .red) ≡ entryCount
-  pub green : length (s .palette .green) ≡ entryCount
-  pub blue : length (s .palette .blue) ≡ entryCount
-  pub stored : length (s .palette .stored) ≡ entryCount
+  pub palette : length (s .palette) ≡ entryCount
   pub address : s .dac .address < 256
+  pub stage : Stage (s .dac)
 
 -- memory as its type has it
 abbrev pub AreBytes : List ℕ → Type 0

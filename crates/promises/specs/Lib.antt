@@ -15,3 +15,5 @@ pub mod Told
 pub mod Lanes
 pub mod Refusals
 pub mod Looks
+pub mod PaletteColumns
+pub mod PaletteAlike

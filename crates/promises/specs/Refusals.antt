@@ -9,7 +9,6 @@ use Rattle.bits.specs.Choose.{pick}
 use Rattle.bits.specs.Bit.{bit}
 use Rattle.chip.specs.declared.State.{State}
 use Rattle.chip.specs.declared.Access.{Access}
-use Rattle.chip.specs.declared.Palette.{Palette}
 use Rattle.chip.specs.declared.Kind.the-variants.{Write}
 use Rattle.chip.specs.declared.Place.{Place}
 use Rattle.chip.specs.declared.Place.the-variants.{Register, Window}
@@ -46,12 +45,13 @@ pub record SoundBit (v k free r t : Bool) : Type 0 where
 unfoldable pub freeBit : ℕ → ℕ → ℕ → Bool
 freeBit once i b = pick (eqb i subsystem) (bit (b / 16) once) (bit b (bankRow i .writable) || bit b (bankRow i .clears))
 
--- an entry's flag is 0 or 1, and an entry never stored is zero
-pub record SoundEntry (p : Palette) (e : ℕ) : Type 0 where
-  pub flag : (getD (p .stored) e 0 ≡ 0) ⊎ (getD (p .stored) e 0 ≡ 1)
-  pub red : getD (p .stored) e 0 ≡ 0 → getD (p .red) e 0 ≡ 0
-  pub green : getD (p .stored) e 0 ≡ 0 → getD (p .green) e 0 ≡ 0
-  pub blue : getD (p .stored) e 0 ≡ 0 → getD (p .blue) e 0 ≡ 0
+-- 02, C-15: "an entry is zero or has exactly bit 24 of its top byte set"
+pub record Flagged (w : ℕ) : Type 0 where
+  pub flag : bit 24 w ≡ true
+  pub alone : (b : ℕ) → 24 < b → b < 32 → bit b w ≡ false
+
+abbrev pub SoundEntry : ℕ → Type 0
+SoundEntry w = (w ≡ 0) ⊎ Flagged w
 
 -- 01's clauses
 pub record IsState (s : State) : Type 0 where
@@ -66,12 +66,13 @@ pub record IsState (s : State) : Type 0 where
   pub address : (b : ℕ) → b < 32 → SoundBit (bit b (s .dac .address)) (bit b (s .dac .known)) (bit b 0xFF) false false
   -- of the write-once flags bits 0 and 1 are used
   pub flags : s .once ≤ 3
-  pub palette : (e : ℕ) → e < entryCount → SoundEntry (s .palette) e
+  pub palette : (e : ℕ) → e < entryCount → SoundEntry (getD (s .palette) e 0)
 
--- what is held and known of each register, and known of the address, are words, as the types have it
+-- what is held and known of each register, the palette's entries, and what is known of the address, are words, as the types have it
 pub record Words (s : State) : Type 0 where
   pub values : (i : ℕ) → getD (s .values) i 0 < 2 ^ 32
   pub knowns : (i : ℕ) → getD (s .knowns) i 0 < 2 ^ 32
+  pub palette : (e : ℕ) → getD (s .palette) e 0 < 2 ^ 32
   pub address : s .dac .known < 2 ^ 32
 
 -- ---- 2 to 7

@@ -26,8 +26,8 @@ pub record IsReset (s : State) (w h f : ℕ) : Type 0 where
   pub address : (s .dac .address ≡ 0) × (s .dac .known ≡ 0)
   pub component : s .dac .component ≡ 0
   pub staged : Unstaged (s .dac)
-  -- no palette entry was stored, and its bytes are zero
+  -- no palette entry was stored, and its word is zero
   pub palette : (e : ℕ) → entryOf (s .palette) e ≡ none
-  pub bytes : (e : ℕ) → (getD (s .palette .red) e 0 ≡ 0) × (getD (s .palette .green) e 0 ≡ 0) × (getD (s .palette .blue) e 0 ≡ 0)
+  pub words : (e : ℕ) → getD (s .palette) e 0 ≡ 0
   -- the arrays have their types' lengths
   pub formed : Formed s

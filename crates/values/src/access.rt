@@ -65,9 +65,8 @@ fn eight_bits(s: State, memory: &mut [u8], picture: &mut [u32]) -> State {
 
 fn say_red(s: State) {
     let p = s.palette;
-    let red = p.red[7];
     say(b"stored red of entry 7: ");
-    console::say::say_number(red as u32);
+    console::say::say_number(p[7] / 0x10000 % 256);
     say(b"\n");
 }
 

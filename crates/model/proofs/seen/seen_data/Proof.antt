@@ -15,7 +15,7 @@ seen-palette-requires c κs = search needs
 
 returns : tie.Need-returns
 unfolding portAt
-returns c = c .seen-palette .ensures ∙ ap (λ (w : Bool). seenPart w (c .before .before .before .args .s .dac .component) (entryOf (c .before .before .before .args .s .palette) (c .before .before .before .args .s .dac .address))) (c .before .before .palette-wide .ensures)
+returns c = c .seen-palette .ensures ∙ ap (λ (w : Bool). seenPart w (c .before .before .before .before .before .args .t1 .dac .component) (entryOf (c .before .before .before .before .before .args .t1 .palette) (c .before .before .before .before .before .args .t1 .dac .address))) (c .before .before .before .before .palette-wide .ensures)
 
 pub seen-data-spec : {M : Type 1} → statement M
 seen-data-spec = tie.close (tie.spec palette-wide-requires seen-palette-requires returns)

@@ -1,6 +1,7 @@
 -- `palette::entries::seen_palette` is the definition, by what the entry holds. Assumes nothing.
 use Prim.Native.Nat.{ℕ}
 use mathlib.Core.Path.{sym, ap, _∙_}
+use denote.Ref.{now}
 use Rattle.chip.specs.Palette.{entryOf, shownAs}
 use Rattle.chip.specs.Port.{seen}
 use Rattle.palette.proofs.AccessLaws.{sees-never, sees-part}
@@ -27,12 +28,12 @@ wide-of-requires : tie.Need-wide-of-requires
 wide-of-requires c κs = search needs
 
 returns : tie.Need-returns
-returns c = sees-never (entryOf (c .before .before .before .args .p) (c .before .before .before .args .d .address)) (c .before .before .before .args .wide) (c .before .before .before .args .d .component) (sym (c .enum-told .given .1) ∙ c .before .before .entry-of .ensures)
+returns c = sees-never (entryOf (now (c .before .before .before .args .p)) (c .before .before .before .args .d .address)) (c .before .before .before .args .wide) (c .before .before .before .args .d .component) (sym (c .enum-told .given .1) ∙ c .before .before .entry-of .ensures)
 
 returns-2 : tie.Need-returns-2
 returns-2 c =
     ap (λ (n : ℕ). seen n 0xFF) (c .wide-of .ensures ∙ c .before .shown-as .ensures ∙ ap (shownAs (c .before .before .before .before .before .before .before .args .wide)) (c .before .before .part-of .ensures))
-    ∙ sees-part (entryOf (c .before .before .before .before .before .before .before .args .p) (c .before .before .before .before .before .before .before .args .d .address)) (c .before .before .before .before .before .before .before .args .wide) (c .before .before .before .before .before .before .before .args .d .component) _ (sym (c .before .before .before .before .f .given .1) ∙ c .before .before .before .before .before .before .entry-of .ensures)
+    ∙ sees-part (entryOf (now (c .before .before .before .before .before .before .before .args .p)) (c .before .before .before .before .before .before .before .args .d .address)) (c .before .before .before .before .before .before .before .args .wide) (c .before .before .before .before .before .before .before .args .d .component) _ (sym (c .before .before .before .before .f .given .1) ∙ c .before .before .before .before .before .before .entry-of .ensures)
 
 pub seen-palette-spec : {M : Type 1} → statement M
 seen-palette-spec =

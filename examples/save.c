@@ -1,4 +1,4 @@
-/* An emulator's save code: the chip's state is written to a file with a version, read back, and gone on with. What a damaged file holds is no state, and the model says so: refusal 1.
+/* An emulator's save code: the chip's state is written to a file with a version, read back, and gone on with. Where a damaged file holds no state, the model says so: refusal 1.
  * A state is plain numbers. The palette is 256 words, each the word of the entry's dots (01RRGGBBh) or 0, so the struct is saved as it stands, and memory and picture after it. */
 #include "reefstencil.h"
 #include <stdio.h>
@@ -18,7 +18,7 @@ struct chip {
 
 /* ---- the file ---- */
 
-/* Version 1 had the palette in four columns; version 2 has it in words. Both structs have the same size, so only the number tells them apart. */
+/* 1 stands for states of the layout before, with the palette in four columns, and 2 for words. Both structs have the same size, so only the number tells them apart. */
 enum { VERSION_COLUMNS = 1, VERSION_WORDS = 2 };
 
 struct heading {
@@ -38,9 +38,9 @@ static int save_as(const char *path, uint32_t version, const void *state, const 
     struct heading h = heading_of(version);
     FILE *f = fopen(path, "wb");
     if (!f) return 0;
-    size_t done = fwrite(&h, sizeof h, 1, f) + fwrite(state, sizeof(struct pm_state), 1, f) + fwrite(c->memory, sizeof c->memory, 1, f) +
-        fwrite(c->picture, sizeof c->picture, 1, f);
-    return fclose(f) == 0 && done == 4;
+    int done = fwrite(&h, sizeof h, 1, f) == 1 && fwrite(state, sizeof(struct pm_state), 1, f) == 1 && fwrite(c->memory, sizeof c->memory, 1, f) == 1 &&
+        fwrite(c->picture, sizeof c->picture, 1, f) == 1;
+    return fclose(f) == 0 && done;
 }
 
 static int save(const char *path, const struct chip *c) {
@@ -57,6 +57,8 @@ struct columns {
     struct pm_dac dac;
     uint8_t red[PM_ENTRIES], green[PM_ENTRIES], blue[PM_ENTRIES], stored[PM_ENTRIES];
 };
+
+_Static_assert(sizeof(struct columns) == sizeof(struct pm_state), "a state of either layout fills the same room");
 
 /* Entry by entry, and nothing is lost either way: what was no state is none afterwards. */
 static struct pm_state from_columns(const struct columns *o) {
@@ -98,7 +100,7 @@ static const char *read_parts(FILE *f, struct heading *h, uint8_t *state, struct
 }
 
 static const char *load(const char *path, struct chip *into) {
-    static uint8_t bytes[sizeof(struct pm_state)];
+    uint8_t bytes[sizeof(struct pm_state)];
     struct heading h;
     struct chip c;
     FILE *f = fopen(path, "rb");
@@ -113,10 +115,10 @@ static const char *load(const char *path, struct chip *into) {
         memcpy(&o, bytes, sizeof o);
         c.state = from_columns(&o);
     }
-    /* a look alters nothing, and with no lane enabled it shows nothing: it is there for its status */
+    /* a look alters nothing, and with no lane enabled it shows nothing: it is there for its status. 1080h is BootAddress, which is always there */
     uint32_t status = pm_look(c.state, PM_REGION_0, 0x1080, 0, c.memory, sizeof c.memory, c.picture, DOTS).status;
     if (status == PM_NO_STATE) return "refused as 1: what it holds is not a state, so the file is damaged";
-    if (status == PM_WRONG_LENGTH) return "refused as 2: its panel or memory is not the saved one's";
+    if (status == PM_WRONG_LENGTH) return "refused as 2: its panel or memory length does not fit the saved memory and picture";
     *into = c;
     return 0;
 }
@@ -180,7 +182,7 @@ static void try_damaged(const char *path, const char *what, const struct chip *c
         return;
     }
     const char *wrong = load(path, &into);
-    printf("%s: %s%s\n", what, wrong ? wrong : "loaded", same(&into, &untouched) ? "" : ", and the chip was altered");
+    printf("%s: %s%s\n", what, wrong ? wrong : "loaded", same(&into, &untouched) ? "" : ", and it is another state");
 }
 
 /* a file that ends after the state */
@@ -239,11 +241,11 @@ int main(int count, char **words) {
     try_damaged(path, "version 3", &c, 3, ENTRY(1), c.state.palette[1]);
     try_short(path, &c);
     /* a state with another colour is a state: whether a file is the one that was written, a checksum tells */
-    try_damaged(path, "entry 1 as it is", &c, VERSION_WORDS, ENTRY(1), c.state.palette[1]);
+    try_damaged(path, "entry 1 as 01ff8001", &c, VERSION_WORDS, ENTRY(1), 0x01FF8001);
 
     /* files of the layout before */
     try_damaged(path, "version 1", &c, VERSION_COLUMNS, offsetof(struct columns, stored), 1);
     try_damaged(path, "version 1, entry 1 with flag 2", &c, VERSION_COLUMNS, offsetof(struct columns, stored) + 1, 2);
     try_damaged(path, "version 1, entry 9 blue without a flag", &c, VERSION_COLUMNS, offsetof(struct columns, blue) + 9, 255);
-    return 0;
+    return save(path, &c) ? 0 : 1; /* what stays is a file that can be loaded */
 }

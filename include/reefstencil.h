@@ -166,7 +166,6 @@ struct pm_dac {
     uint8_t green;     /* .. and green, as they will be stored */
 };
 
-/* The components of an entry are eight bits each, whichever width the palette was loaded in: w, written with six bits, is stored as 4 * w + w / 16, so 63 as 255. */
 struct pm_state {
     uint32_t width;         /* the panel in dots, as given at opening .. */
     uint32_t height;
@@ -174,7 +173,9 @@ struct pm_state {
     uint32_t once;          /* write-once numbers that are fixed: bit 0 the subsystem vendor, bit 1 the subsystem ID */
     uint32_t values[79];    /* what each register holds, by enum pm_row; 0 wherever it is unknown .. */
     uint32_t knowns[79];    /* .. and which of its bits are known */
-    uint32_t palette[256];  /* each entry: 01RRGGBBh, the word of its dots, or 0 if it was never stored. Any other top byte, and a colour without the 01h, is not a state */
+    /* Each entry: 01RRGGBBh, the word of its dots, or 0 if it was never stored. Another top byte, or a colour without the 01h, is not a state. A component has eight bits,
+     * whichever width it was written in: w, written with six bits, is stored as 4 * w + w / 16, so 63 as 255. */
+    uint32_t palette[PM_ENTRIES];
     struct pm_dac dac;
     /* two bytes follow that mean nothing and may differ in equal states: compare fields, not bytes */
 };

@@ -20,7 +20,7 @@ use Rattle.chip.specs.State.{resetState}
 use Rattle.chip.specs.Sound.{isState}
 use Rattle.chip.specs.Place.{placeOf}
 use Rattle.chip.specs.Picture.{drawn, wordOf}
-use Rattle.chip.specs.Step.{openOf}
+use Rattle.chip.specs.Step.{Outcome, openOf}
 use Rattle.chip.specs.Trace.{World, opened, step, after, run}
 use Rattle.promises.specs.Good.{AreBytes, Good, Openable}
 use Rattle.promises.specs.Places.{Leads}
@@ -44,11 +44,11 @@ use Rattle.promises.proofs.Promise4Lanes.{written-back}
 use Rattle.promises.proofs.Promise5Picture.{picture-right, count-right, lengths-stay, dot-ruled}
 use Rattle.promises.proofs.Promise6Altered.{other-dots-stay, differing-dots-change}
 use Rattle.promises.proofs.Promise7Depends.{aperture-depends, command-gates-nothing, command-alters-nothing}
-use Rattle.promises.specs.PaletteColumns.{ColumnState, ColumnOutcome, columnStep, columnOpened, columnRun}
+use Rattle.promises.specs.PaletteColumns.{ColumnState, columnStep, columnOpen, columnOpened, columnTook, columnRun}
 use Rattle.promises.specs.PaletteAlike.{Paired, SameOutcome, SameWorld}
 use Rattle.promises.specs.Looks.{SameAsked, unlooked, answersOf, othersIn}
 use Rattle.promises.proofs.Promise9Looks.{look-alters-nothing, read-after-look, looks-change-nothing}
-use Rattle.promises.proofs.Promise10Palette.{layouts-access, layouts-world, word-exactly, word-never}
+use Rattle.promises.proofs.Promise10Palette.{layouts-access, layouts-opening, layouts-world, layouts-answer, word-exactly, word-never}
 use Rattle.calls.specs.Calls.{Called, OpenCalled, Calls}
 use Rattle.calls.proofs.Calls.{call-answers, call-leaves, open-answers, open-leaves, calls-leave, calls-answer}
 
@@ -171,14 +171,14 @@ calls-without-looks x l rs qs z v c d = (
 )
 
 -- 02, C-15: a call does what the machine with the palette in four columns does, on a state that is alike: status, word, mask, count, memory and picture are the same, and the states are alike again ..
-pub call-columns : (x : World) (a : Access) (r : Answer) (y : World) → Called x a r y → (b : ColumnState) → Paired b (x .state) → (o : ColumnOutcome) → o ≡ columnStep b (x .memory) (x .picture) a
-    → (r .status ≡ o .status) × (r .word ≡ o .word) × (r .known ≡ o .known) × (r .changed ≡ o .changed) × Paired (o .state) (y .state) × (y .memory ≡ o .memory) × (y .picture ≡ o .picture)
-call-columns x a r y c b q o e =
-    of-call x a r y c
-    (λ (t : Answer) (z : World).
-    (t .status ≡ o .status) × (t .word ≡ o .word) × (t .known ≡ o .known) × (t .changed ≡ o .changed) × Paired (o .state) (z .state) × (z .memory ≡ o .memory) × (z .picture ≡ o .picture))
-    (let f = subst (λ (u : ColumnOutcome). SameOutcome u (step x a)) (sym e) (layouts-access b (x .state) q (x .memory) (x .picture) a) in
-    (f .status, f .word, f .known, f .changed, f .state, f .memory, f .picture))
+abbrev outcome : Answer → World → Outcome
+outcome r y = record { answer = record { status = r .status; word = r .word; known = r .known; changed = r .changed; state = y .state }; memory = y .memory; picture = y .picture }
+
+pub call-columns : (x : World) (a : Access) (r : Answer) (y : World) → Called x a r y → (b : ColumnState) → Paired b (x .state)
+    → SameOutcome (columnStep b (x .memory) (x .picture) a) (outcome r y)
+call-columns x a r y c b q =
+    of-call x a r y c (λ (t : Answer) (z : World). SameOutcome (columnStep b (x .memory) (x .picture) a) (outcome t z))
+    (layouts-access b (x .state) q (x .memory) (x .picture) a)
 
 -- the command register gates no call, and one that does not lead to it answers alike and leaves the same memory
 pub call-command : (x x′ : World) (a : Access) (r r′ : Answer) (y y′ : World) → Called x a r y → Called x′ a r′ y′ → Good x → Good x′ → ButRow x x′ command
@@ -218,6 +218,14 @@ module _ (w h : ℕ) (m p : List ℕ) (r : Opened) (x : World) (c : OpenCalled w
       subst (λ (z : World). (z .state ≡ resetState w h (length m)) × (z .memory ≡ m) × (z .picture ≡ replicate (w * h) 0x03000000)) (sym (open-leaves w h m p r x c))
       (f .state, f .memory, f .picture)
 
+  -- 02, C-15: and its status, state, memory and picture are those of the machine with the palette in four columns
+  pub open-columns : (r .status ≡ columnOpen w h m p .status) × SameWorld (columnOpened w h m p) x
+  open-columns =
+      let o = layouts-opening w h m p in (
+        ap (λ (q : Opened). q .status) (open-answers w h m p r x c) ∙ o .status,
+        subst (SameWorld (columnOpened w h m p)) (sym (open-leaves w h m p r x c)) (record { state = o .state; memory = o .memory; picture = o .picture }),
+      )
+
 -- ---- any sequence of calls after an opening
 
 module _ (w h : ℕ) (m p : List ℕ) (r : Opened) (x : World) (c : OpenCalled w h m p r x) (l : List Access) (rs : List Answer) (z : World) (d : Calls x l rs z) where
@@ -233,9 +241,14 @@ module _ (w h : ℕ) (m p : List ℕ) (r : Opened) (x : World) (c : OpenCalled w
   pub promised : (P : World → Type 0) → P (run (opened w h m p) l) → P z
   promised P q = subst P (sym (calls-agree .0)) q
 
-  -- 02, C-15: .. and so along the calls after any opening, refused or not
+  -- 02, C-15: .. and so along the calls after any opening, refused or not, with the answer of each
   pub calls-columns : SameWorld (columnRun (columnOpened w h m p) l) z
   calls-columns = promised (SameWorld (columnRun (columnOpened w h m p) l)) (layouts-world w h m p l)
+
+  pub calls-columns-next : (a : Access) (s : Answer) (y : World) → Called z a s y → SameOutcome (columnTook (columnRun (columnOpened w h m p) l) a) (outcome s y)
+  calls-columns-next a s y e =
+      of-call z a s y e (λ (t : Answer) (u : World). SameOutcome (columnTook (columnRun (columnOpened w h m p) l) a) (outcome t u))
+      (promised (λ (u : World). SameOutcome (columnTook (columnRun (columnOpened w h m p) l) a) (step u a)) (layouts-answer w h m p l a))
 
   module _ (o : r .status ≡ 0) where
     -- demand 3: the picture is the one drawn afresh
@@ -271,7 +284,7 @@ module _ (w h : ℕ) (m p : List ℕ) (r : Opened) (x : World) (c : OpenCalled w
       calls-entries e g f =
           promised (λ (u : World). (entryOf (u .state .palette) e ≡ some f) ↔ Loaded (opened w h m p) l e f) (entry-exactly w h m p openable l e g f)
 
-      -- 02, C-15: an entry's word is 01RRGGBBh exactly where that colour was loaded, and 0 exactly where none was
+      -- 02, C-15: an entry's word is 01RRGGBBh exactly where that colour was loaded last, and 0 exactly where none was
       pub calls-words : (e : ℕ) → e < entryCount
           → ((f : Colour) → Shades f → (getD (z .state .palette) e 0 ≡ 0x01000000 + f .red * 0x10000 + f .green * 0x100 + f .blue) ↔ Loaded (opened w h m p) l e f)
           × ((getD (z .state .palette) e 0 ≡ 0) ↔ NoLoad (opened w h m p) [] l e)

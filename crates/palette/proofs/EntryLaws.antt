@@ -11,7 +11,7 @@ use lib.Bits.{bitXor, differ, xor-step, xor-zero-r, xor-block}
 use lib.Dec.{eqb, leb}
 use lib.ListN.{getD}
 use Rattle.bits.proofs.Cases.{byTest}
-use Rattle.bits.proofs.Bools.{and-false, and-both, or-true}
+use Rattle.bits.proofs.Bools.{and-false, and-both}
 use Rattle.bits.proofs.Digits.{by-digit}
 use Rattle.chip.specs.Palette.{colourIn, isStored, entryOf, wordOk}
 use Rattle.palette.specs.declared.entries.Found.the-variants.{Never, Stored}
@@ -35,11 +35,11 @@ unfolding wordOk isStored
 turned-ok w =
     let z = turned-flag w in
     byTest (eqb (w / 0x1000000) 1)
-    (λ t. let y = eqb-true (w / 0x1000000) 1 t in simp t (le-leb (bitXor w 0x01000000) 0x01000000 (omega (arith, z, y)) ∙ sym (or-true (eqb w 0))))
+    (λ t. let y = eqb-true (w / 0x1000000) 1 t in simp t (le-leb (bitXor w 0x01000000) 0x01000000 (omega (arith, z, y))))
     (λ t.
     let n : w / 0x1000000 ≡ 1 → ⊥ = eqb-false (w / 0x1000000) 1 t in
     byTest (eqb w 0)
-    (λ u. let y = eqb-true w 0 u in simp u (le-leb (bitXor w 0x01000000) 0x01000000 (omega (arith, z, y))))
+    (λ u. let y = eqb-true w 0 u in simp (t, u) (le-leb (bitXor w 0x01000000) 0x01000000 (omega (arith, z, y))))
     (λ u. let m : w ≡ 0 → ⊥ = eqb-false w 0 u in simp (t, u) (lt-leb (bitXor w 0x01000000) 0x01000000 (omega (arith, z, n, m)))))
 
 -- the larger of two

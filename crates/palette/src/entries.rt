@@ -112,7 +112,7 @@ fn turned(w: u32) -> u32
     w ^ 0x01000000
 }
 
-// Refusal 1's test of the palette: the largest of the turned words decides. So the loop has no test, and runs over many entries at a time.
+// Refusal 1's test of the palette: the largest of the turned words decides, so that a turn of the loop is an XOR and a maximum.
 pub fn palette_sound<'a>(p: &'a [u32; 256]) -> bool
     ensures { λ r. ⌜ r ≡ paletteOk (now (p .entry)) ⌝ }
 {

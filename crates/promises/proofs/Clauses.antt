@@ -2,7 +2,7 @@
 -- Clause by clause; a register's fault word is zero exactly where each of its bits is sound. Assumes nothing.
 use Prim.Native.Nat.{ℕ, _+_, _-_, _/_, _%_, _^_, _<_, _≤_}
 use mathlib.Core.Bool.{Bool, true, false, not, _&&_}
-use mathlib.Core.Logic.{_↔_, _⊎_, inl, inr}
+use mathlib.Core.Logic.{_↔_, inl, inr}
 use mathlib.Core.Path.{_≡_, refl, sym, ap, ap₂, _∙_, subst}
 use native.Mathlib.Omega.{arith}
 use borrow.Author.Tests.{eqb-true, eqb-false, eq-eqb, leb-true, le-leb}
@@ -141,12 +141,12 @@ of-flagged w hw f =
 
 word-sound : (w : ℕ) → wordOk w ≡ true → SoundEntry w
 unfolding wordOk
-word-sound w t = byTest (eqb w 0) (λ z. inl (eqb-true w 0 z)) (λ z. inr (flagged-of w (or-second (eqb w 0) (isStored w) z t)))
+word-sound w t = byTest (isStored w) (λ z. inr (flagged-of w z)) (λ z. inl (eqb-true w 0 (or-second (isStored w) (eqb w 0) z t)))
 
 sound-word : (w : ℕ) → w < 2 ^ 32 → SoundEntry w → wordOk w ≡ true
 unfolding wordOk
-sound-word w h (inl z) = simp (eq-eqb w 0 z)
-sound-word w h (inr f) = simp (of-flagged w h f) (or-true (eqb w 0))
+sound-word w h (inl z) = simp (eq-eqb w 0 z) (or-true (isStored w))
+sound-word w h (inr f) = simp (of-flagged w h f)
 
 -- ---- the limits
 

@@ -26,7 +26,7 @@ use Rattle.chip.specs.Palette.{Shades, colourIn, isStored, entryOf}
 use Rattle.chip.specs.View.{baseOf, strideOf, maskOf, notIndexed, unplaced, fixedOf, viewOf}
 use Rattle.chip.specs.Picture.{rowStart, dotByte, ruled, beyond, colourWord, dotEntry, underByte, underAt, laidAt, wordAt, viewWord, wordOf}
 use Rattle.chip.proofs.Computed.{computed}
-use Rattle.chip.proofs.Entries.{shades-in}
+use Rattle.chip.proofs.Entries.{coloured-back, shades-in}
 use Rattle.promises.specs.Dots.{Indexed, Known, Placed, dotAt, entryAt, Ruled}
 use Rattle.promises.proofs.Options.{some-is, absurd-put, picked}
 
@@ -139,11 +139,7 @@ apart c f = record { above = omega arith; below = omega (arith, f .red, f .green
 
 same-colour : (c d : Colour) → Shades c → Shades d
     → 0x01000000 + c .red * 0x10000 + c .green * 0x100 + c .blue ≡ 0x01000000 + d .red * 0x10000 + d .green * 0x100 + d .blue → c ≡ d
-same-colour c d f g e =
-    let r : c .red ≡ d .red = omega (arith, e, f .red, f .green, f .blue, g .red, g .green, g .blue) in
-    let n : c .green ≡ d .green = omega (arith, e, f .red, f .green, f .blue, g .red, g .green, g .blue) in
-    let b : c .blue ≡ d .blue = omega (arith, e, f .red, f .green, f .blue, g .red, g .green, g .blue) in
-    ap₂ (λ (x y : ℕ). record { red = x; green = y; blue = c .blue }) r n ∙ ap (λ (x : ℕ). record { red = d .red; green = d .green; blue = x }) b
+same-colour c d f g e = sym (coloured-back c f) ∙ ap colourIn e ∙ coloured-back d g
 
 -- a colour that a word holds is of bytes
 pub entry-shades : (p : List ℕ) (e : ℕ) (c : Colour) → entryOf p e ≡ some c → Shades c

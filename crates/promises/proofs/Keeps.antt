@@ -2,7 +2,6 @@
 -- The tests of refusal 1 one by one, each by the part of the patch that it asks for. Assumes nothing.
 use Prim.Native.Nat.{ℕ, _<_}
 use mathlib.Core.Bool.{Bool, true, false}
-use mathlib.Core.List.{List}
 use mathlib.Core.Option.{Option, none, some, Option·getD}
 use mathlib.Core.Path.{_≡_, sym, _∙_, subst}
 use native.Mathlib.Omega.{arith}
@@ -13,16 +12,14 @@ use Rattle.bits.proofs.Cases.{pick-by, pick-when}
 use Rattle.chip.specs.declared.State.{State}
 use Rattle.chip.specs.declared.Access.{Access}
 use Rattle.chip.specs.declared.Dac.{Dac}
-use Rattle.chip.specs.Palette.{entryCount, storeEntry, paletteOk}
 use Rattle.chip.specs.Bank.{bankCount}
-use Rattle.chip.specs.Dac.{Paint, afterFetch}
-use Rattle.chip.specs.Patch.{Store, Patch, valued, learned, painted, applied}
+use Rattle.chip.specs.Dac.{afterFetch}
+use Rattle.chip.specs.Patch.{Store, Patch, valued, learned, applied}
 use Rattle.chip.specs.Place.{placeOf}
 use Rattle.chip.specs.Port.{rowPatch, keptFrom}
 use Rattle.chip.specs.Access.{isWrite}
 use Rattle.chip.specs.Sound.{onceOk, bankSound}
 use Rattle.chip.specs.Trace.{World}
-use Rattle.chip.proofs.Entries.{palette-kept}
 use Rattle.promises.specs.Good.{Stage, Formed, Good}
 use Rattle.promises.specs.Reach.{reachAt}
 use Rattle.promises.specs.History.{isAim, isData}
@@ -31,7 +28,7 @@ use Rattle.promises.proofs.Sane.{Sane, sane}
 use Rattle.promises.proofs.Bank.{bank-kept, once-kept}
 use Rattle.promises.proofs.Dacs.{Settled, paint-advances, advanced-settled, aimed-settled, lane-byte-lt}
 use Rattle.promises.proofs.Does.{storeFrom, onceFrom, stepped, writes, does}
-use Rattle.promises.proofs.Stages.{Shaded, stage-after, paint-shaded}
+use Rattle.promises.proofs.Stages.{Shaded, stage-after, paint-shaded, painted-length, painted-ok}
 use Rattle.promises.proofs.DataParts.{data-parts}
 use Rattle.promises.proofs.Sites.{names, address-there}
 
@@ -68,19 +65,6 @@ module _ (s : State) (z : Sane s) (f : Formed s) where
   learned-length none = f .knowns
   learned-length (some x) = length-set (s .knowns) (x .row) _ ∙ f .knowns
 
-  record Coloured (p : List ℕ) : Type 0 where
-    entries : length p ≡ entryCount
-    ok : paletteOk p ≡ true
-
-  painted-kept : (o : Option Paint) → Shaded o → Coloured (painted o (s .palette))
-  unfolding storeEntry
-  painted-kept none h = record { entries = f .palette; ok = z .palette }
-  painted-kept (some x) h =
-      record {
-        entries = length-set (s .palette) (x .entry) _ ∙ f .palette;
-        ok = palette-kept (s .palette) (x .entry) (x .colour) h (f .palette) (z .palette);
-      }
-
   still-settled : Settled (s .dac)
   still-settled = record { component = z .component; address = z .address; byte = f .address }
 
@@ -90,7 +74,6 @@ module _ (s : State) (z : Sane s) (f : Formed s) where
       → Kept (applied p s)
   unfolding applied
   applied-kept p b d g h =
-      let c = painted-kept (p .paint) h in
       record {
         sane =
             record {
@@ -100,13 +83,13 @@ module _ (s : State) (z : Sane s) (f : Formed s) where
               address = d .address;
               once = b .once;
               bank = b .bank;
-              palette = c .ok;
+              palette = painted-ok (p .paint) (s .palette) h (f .palette) (z .palette);
             };
         formed =
             record {
               values = valued-length (p .store);
               knowns = learned-length (p .store);
-              palette = c .entries;
+              palette = painted-length (p .paint) (s .palette) (f .palette);
               address = d .byte;
               stage = g;
             };

@@ -1,36 +1,22 @@
--- What the two layouts of the palette share does not depend on it: a state's palette may be any, and the refusals after the first, what is stored, and what is seen beside palette data, are the same.
+-- What the two layouts of the palette share does not depend on it: whatever a state's palette is, the refusals after the first, and what an access stores, are the same. (What is seen beside palette data, and the view, are in PaletteStep.)
 -- Place by place, each by computing; then states that are alike share it, since without their palettes they are one. Assumes nothing.
 use Prim.Native.Nat.{ℕ}
-use mathlib.Core.Bool.{Bool}
-use mathlib.Core.List.{List, []}
-use mathlib.Core.Path.{_≡_, refl, sym, ap, _∙_, subst}
-use Rattle.bits.specs.Choose.{pick}
+use mathlib.Core.List.{[]}
+use mathlib.Core.Path.{_≡_, refl, ap, _∙_}
 use Rattle.chip.specs.declared.State.{State}
 use Rattle.chip.specs.declared.Access.{Access}
 use Rattle.chip.specs.declared.Place.{Place}
 use Rattle.chip.specs.declared.Place.the-variants.{Register, Address, PaletteData, Window, Blank, Nowhere}
-use Rattle.chip.specs.Access.{isWrite, isLook}
 use Rattle.chip.specs.Place.{placeOf}
 use Rattle.chip.specs.Port.{wide, rowPatch, fetchPatch, keptFrom, paintPatch, portAt}
-use Rattle.chip.specs.Patch.{nothingStored}
-use Rattle.chip.specs.Refusal.{Line, portOf, laterLines}
+use Rattle.chip.specs.Refusal.{portOf, laterLines}
 use Rattle.chip.specs.Step.{patchOf}
 use Rattle.promises.specs.PaletteColumns.{ColumnState, restOf}
-use Rattle.promises.specs.PaletteAlike.{Alike}
+use Rattle.promises.specs.PaletteAlike.{Alike, filled}
 
 -- a state without its palette
 abbrev pub bare : State → State
-bare s =
-    record {
-      width = s .width;
-      height = s .height;
-      fitted = s .fitted;
-      once = s .once;
-      values = s .values;
-      knowns = s .knowns;
-      dac = s .dac;
-      palette = [];
-    }
+bare s = filled s []
 
 record Unread (s : State) (a : Access) (p : Place) : Type 0 where
   present : portAt (bare s) a p .present ≡ portAt s a p .present
@@ -49,11 +35,11 @@ unread s a (Window i) = record { present = refl; reads = refl; writes = refl; se
 unread s a Blank = record { present = refl; reads = refl; writes = refl; served = refl; fetched = refl; stored = refl }
 unread s a Nowhere = record { present = refl; reads = refl; writes = refl; served = refl; fetched = refl; stored = refl }
 
-pub patch-unread : (s : State) (a : Access) → patchOf (bare s) a ≡ patchOf s a
+patch-unread : (s : State) (a : Access) → patchOf (bare s) a ≡ patchOf s a
 unfolding patchOf portOf
 patch-unread s a = let z = unread s a (placeOf s a) in simp (z .stored, z .fetched)
 
-pub lines-unread : (s : State) (ml pl : ℕ) (a : Access) → laterLines (bare s) ml pl a ≡ laterLines s ml pl a
+lines-unread : (s : State) (ml pl : ℕ) (a : Access) → laterLines (bare s) ml pl a ≡ laterLines s ml pl a
 unfolding laterLines portOf
 lines-unread s ml pl a = let z = unread s a (placeOf s a) in simp (z .present, z .reads, z .writes, z .served)
 

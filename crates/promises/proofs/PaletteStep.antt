@@ -1,9 +1,9 @@
 -- The two layouts of the palette do the same at every access and at every opening, and leave states that are alike.
 -- Of an entry's four bytes and of its word refusal 1 says the same, and where it passes both hold the same colour: so refusals, what is seen and what is drawn are the same; and a stored entry is alike again.
 -- Assumes nothing.
-use Prim.Native.Nat.{ℕ, _+_, _*_, _/_, _%_, _^_, _<_}
-use mathlib.Core.Bool.{Bool, true, false, not, _&&_}
-use mathlib.Core.List.{List, [], _∷_}
+use Prim.Native.Nat.{ℕ, _/_, _<_}
+use mathlib.Core.Bool.{Bool, true, not, _&&_}
+use mathlib.Core.List.{List, _∷_}
 use mathlib.Core.Option.{Option, none, some, Option·getD}
 use mathlib.Core.Path.{_≡_, refl, sym, ap, ap₂, _∙_, subst, fun-ext}
 use native.Mathlib.Omega.{arith}
@@ -22,29 +22,29 @@ use Rattle.chip.specs.declared.Colour.{Colour}
 use Rattle.chip.specs.declared.Seen.{Seen}
 use Rattle.chip.specs.declared.Place.{Place}
 use Rattle.chip.specs.declared.Place.the-variants.{Register, Address, PaletteData, Window, Blank, Nowhere}
-use Rattle.chip.specs.Palette.{emptyPalette, colouredWord, colourIn, isStored, entryOf, storeEntry, wordOk, entryOk, paletteOk}
+use Rattle.chip.specs.Palette.{entryCount, emptyPalette, colouredWord, colourIn, isStored, entryOf, storeEntry, wordOk, entryOk, paletteOk}
 use Rattle.chip.specs.Dac.{Paint, resetDac}
 use Rattle.chip.specs.Access.{isWrite}
 use Rattle.chip.specs.Place.{placeAt, placeOf}
 use Rattle.chip.specs.Port.{seen, knownIn, wordIn, wide, portAt}
-use Rattle.chip.specs.Patch.{Patch, Store, valued, learned, painted, applied, memoryWith}
+use Rattle.chip.specs.Patch.{Patch, valued, learned, painted, applied, memoryWith}
 use Rattle.chip.specs.Sound.{isState}
-use Rattle.chip.specs.Refusal.{Line, line, firstOf, portOf, laterLines, accessLines, statusOf, openingStatus}
+use Rattle.chip.specs.Refusal.{Line, line, firstOf, portOf, accessLines, statusOf, openingStatus}
 use Rattle.chip.specs.View.{View, baseOf, strideOf, maskOf, notIndexed, unplaced, fixedOf, viewOf}
 use Rattle.chip.specs.Picture.{viewWord, wordOf, redrawn, diffs}
 use Rattle.chip.specs.State.{resetState}
 use Rattle.chip.specs.Step.{refused, settled, seenBy, patchOf, stateAfter, memoryAfter, doneBy, givenBy, stepOf, openOf}
 use Rattle.chip.specs.Trace.{World}
 use Rattle.chip.proofs.Refusals.{unrefused}
-use Rattle.chip.proofs.Entries.{palette-kept}
+use Rattle.chip.proofs.Entries.{coloured-back}
 use Rattle.promises.specs.Good.{Stage, statusAt}
 use Rattle.promises.specs.History.{accepted}
-use Rattle.promises.specs.PaletteColumns.{Columns, noColumns, columnEntry, storeColumns, columnOk, columnsOk, ColumnState, columnReset, restOf, isColumnState, columnPainted, columnApplied, columnSeen, columnSeenBy, columnView, columnWord, columnStatus, columnRefused, columnSettled, columnDone, columnStep, columnOpen}
-use Rattle.promises.specs.PaletteAlike.{Column, TypedColumns, TypedWords, packedAt, Alike, Paired, SameOutcome, SameOpening}
+use Rattle.promises.specs.PaletteColumns.{noColumns, bytesEntry, columnEntry, storeColumns, bytesOk, columnOk, columnsOk, ColumnState, columnReset, isColumnState, columnPainted, columnApplied, columnSeen, columnSeenBy, columnView, columnWord, columnStatus, columnRefused, columnSettled, columnDone, columnStep, columnOpen}
+use Rattle.promises.specs.PaletteAlike.{Column, ByteColumns, packed, packedAt, Alike, Paired, SameOutcome, SameOpening}
 use Rattle.promises.proofs.Patches.{patchAt}
-use Rattle.promises.proofs.Stages.{Shaded, stage-after, paint-shaded}
+use Rattle.promises.proofs.Stages.{Shaded, stage-after, paint-shaded, painted-length, painted-ok, painted-lt}
 use Rattle.promises.proofs.Sane.{sane}
-use Rattle.promises.proofs.PaletteShared.{bare, rest-bare, same-patch, same-lines}
+use Rattle.promises.proofs.PaletteShared.{rest-bare, same-patch, same-lines}
 
 -- ---- one entry, over plain values: flag, red, green, blue, and its word
 
@@ -52,7 +52,7 @@ record Entry (f r g b w : ℕ) : Type 0 where
   red : r < 256
   green : g < 256
   blue : b < 256
-  word : w ≡ f * 0x1000000 + r * 0x10000 + g * 0x100 + b
+  word : w ≡ packed f r g b
 
 module _ (f r g b w : ℕ) (h : Entry f r g b w) where
   top : w / 0x1000000 ≡ f
@@ -76,30 +76,26 @@ module _ (f r g b w : ℕ) (h : Entry f r g b w) where
       (λ u. t ∙ sym u))
 
   -- refusal 1
-  same-ok : wordOk w ≡ pick (eqb f 0) (eqb r 0 && (eqb g 0 && eqb b 0)) (eqb f 1)
+  same-ok : wordOk w ≡ bytesOk f r g b
   unfolding wordOk isStored
   same-ok =
       byTest (eqb f 0)
-      (λ t. let z = eqb-true f 0 t in let y : w / 0x1000000 ≡ 0 = top ∙ z in simp (t, y, or-false (eqb w 0)) (unflagged z))
-      (λ t. let n : w ≡ 0 → ⊥ = λ z. eqb-false f 0 t (zero-parts z .0) in simp (t, ne-eqb w 0 n, top))
+      (λ t. let z = eqb-true f 0 t in let y : w / 0x1000000 ≡ 0 = top ∙ z in simp (t, y) (unflagged z))
+      (λ t. let n : w ≡ 0 → ⊥ = λ z. eqb-false f 0 t (zero-parts z .0) in simp (t, top, ne-eqb w 0 n) (or-false (eqb f 1)))
 
   -- where it passes, the same colour or none
-  same-entry : wordOk w ≡ true → pick (isStored w) (some (colourIn w)) none ≡ pick (eqb f 0) none (some (record { red = r; green = g; blue = b }))
+  same-entry : wordOk w ≡ true → pick (isStored w) (some (colourIn w)) none ≡ bytesEntry f r g b
   unfolding isStored
   same-entry k =
       byTest (eqb f 0)
       (λ t. let y : w / 0x1000000 ≡ 0 = top ∙ eqb-true f 0 t in simp (t, y))
       (λ t.
       let u : eqb f 1 ≡ true = simp t at (sym same-ok ∙ k) in
-      let y : w / 0x1000000 ≡ 1 = top ∙ eqb-true f 1 u in
-      simp (t, y) (ap some same-colour))
-    where
-      same-colour : colourIn w ≡ record { red = r; green = g; blue = b }
-      same-colour =
-          let er : colourIn w .red ≡ r = omega (arith, h .red, h .green, h .blue, h .word) in
-          let eg : colourIn w .green ≡ g = omega (arith, h .red, h .green, h .blue, h .word) in
-          let eb : colourIn w .blue ≡ b = omega (arith, h .red, h .green, h .blue, h .word) in
-          ap₂ (λ (x y : ℕ). record { red = x; green = y; blue = colourIn w .blue }) er eg ∙ ap (λ (x : ℕ). record { red = r; green = g; blue = x }) eb
+      let y : f ≡ 1 = eqb-true f 1 u in
+      let v : w / 0x1000000 ≡ 1 = top ∙ y in
+      let c : Colour = record { red = r; green = g; blue = b } in
+      let x : w ≡ colouredWord c = omega (arith, h .word, y) in
+      simp (t, v) (ap some (ap colourIn x ∙ coloured-back c (record { red = h .red; green = h .green; blue = h .blue }))))
 
 -- ---- two states that are alike
 
@@ -107,12 +103,12 @@ module _ (b : ColumnState) (s : State) (q : Paired b s) where
   abbrev z : Alike b s
   z = q .alike
 
-  entry-at : (e : ℕ) → e < 256 → Entry (getD (b .palette .stored) e 0) (getD (b .palette .red) e 0) (getD (b .palette .green) e 0) (getD (b .palette .blue) e 0) (getD (s .palette) e 0)
-  entry-at e h = record { red = q .columns .red .bytes e; green = q .columns .green .bytes e; blue = q .columns .blue .bytes e; word = z .palette e h }
+  entry-at : (e : ℕ) → e < entryCount → Entry (getD (b .palette .stored) e 0) (getD (b .palette .red) e 0) (getD (b .palette .green) e 0) (getD (b .palette .blue) e 0) (getD (s .palette) e 0)
+  entry-at e h = record { red = q .columns .palette .red .bytes e; green = q .columns .palette .green .bytes e; blue = q .columns .palette .blue .bytes e; word = z .palette e h }
 
   same-palettes : paletteOk (s .palette) ≡ columnsOk (b .palette)
   unfolding paletteOk columnsOk entryOk columnOk
-  same-palettes = every-same _ _ 256 (λ e h. same-ok _ _ _ _ _ (entry-at e h))
+  same-palettes = every-same _ _ entryCount (λ e h. same-ok _ _ _ _ _ (entry-at e h))
 
   pub same-state : isState s ≡ isColumnState b
   unfolding isState isColumnState
@@ -127,11 +123,11 @@ module _ (b : ColumnState) (s : State) (q : Paired b s) where
     same-colours : (e : ℕ) → entryOf (s .palette) e ≡ columnEntry (b .palette) e
     unfolding entryOf columnEntry paletteOk entryOk isStored
     same-colours e =
-        byTest (ltb e 256)
-        (λ t. let h = ltb-true e 256 t in same-entry _ _ _ _ _ (entry-at e h) (every-at (entryOk (s .palette)) 256 e k h))
+        byTest (ltb e entryCount)
+        (λ t. let h = ltb-true e entryCount t in same-entry _ _ _ _ _ (entry-at e h) (every-at (entryOk (s .palette)) entryCount e k h))
         (λ t.
-        let h = ltb-false e 256 t in
-        simp (List·getD-eq-default (s .palette) 0 {n = e} (omega (arith, h, q .words .length-is)), List·getD-eq-default (b .palette .stored) 0 {n = e} (omega (arith, h, q .columns .stored .length-is))))
+        let h = ltb-false e entryCount t in
+        simp (List·getD-eq-default (s .palette) 0 {n = e} (omega (arith, h, q .words .palette .length-is)), List·getD-eq-default (b .palette .stored) 0 {n = e} (omega (arith, h, q .columns .palette .stored .length-is))))
 
     same-view : viewOf s ≡ columnView b
     unfolding viewOf columnView fixedOf unplaced notIndexed maskOf strideOf baseOf
@@ -165,31 +161,25 @@ set-column l e v c h = record { length-is = length-set l e v ∙ c .length-is; b
 
 module _ (b : ColumnState) (s : State) (q : Paired b s) where
   -- the stored entry's word is its four bytes, and another entry stays
-  stored-alike : (i e : ℕ) (c : Colour) → e < 256 → getD (storeEntry (s .palette) i c) e 0 ≡ packedAt (storeColumns (b .palette) i c) e
+  stored-alike : (i e : ℕ) (c : Colour) → e < entryCount → getD (storeEntry (s .palette) i c) e 0 ≡ packedAt (storeColumns (b .palette) i c) e
   unfolding storeEntry storeColumns
   stored-alike i e c h =
-      let w = getD-set (s .palette) i e (colouredWord c) 0 (omega (arith, h, q .words .length-is)) in
-      let r = getD-set (b .palette .red) i e (c .red) 0 (omega (arith, h, q .columns .red .length-is)) in
-      let g = getD-set (b .palette .green) i e (c .green) 0 (omega (arith, h, q .columns .green .length-is)) in
-      let l = getD-set (b .palette .blue) i e (c .blue) 0 (omega (arith, h, q .columns .blue .length-is)) in
-      let f = getD-set (b .palette .stored) i e 1 0 (omega (arith, h, q .columns .stored .length-is)) in
+      let w = getD-set (s .palette) i e (colouredWord c) 0 (omega (arith, h, q .words .palette .length-is)) in
+      let r = getD-set (b .palette .red) i e (c .red) 0 (omega (arith, h, q .columns .palette .red .length-is)) in
+      let g = getD-set (b .palette .green) i e (c .green) 0 (omega (arith, h, q .columns .palette .green .length-is)) in
+      let l = getD-set (b .palette .blue) i e (c .blue) 0 (omega (arith, h, q .columns .palette .blue .length-is)) in
+      let f = getD-set (b .palette .stored) i e 1 0 (omega (arith, h, q .columns .palette .stored .length-is)) in
       byTest (eqb i e) (λ t. simp (w, r, g, l, f, t)) (λ t. simp (w, r, g, l, f, t) (q .alike .palette e h))
 
-  painted-alike : (o : Option Paint) (e : ℕ) → e < 256 → getD (painted o (s .palette)) e 0 ≡ packedAt (columnPainted o (b .palette)) e
+  painted-alike : (o : Option Paint) (e : ℕ) → e < entryCount → getD (painted o (s .palette)) e 0 ≡ packedAt (columnPainted o (b .palette)) e
   painted-alike none e h = q .alike .palette e h
   painted-alike (some x) e h = stored-alike (x .entry) e (x .colour) h
 
-  record ColumnsKept (p : Columns) : Type 0 where
-    red : Column (p .red)
-    green : Column (p .green)
-    blue : Column (p .blue)
-    stored : Column (p .stored)
-
-  columns-kept : (o : Option Paint) → Shaded o → ColumnsKept (columnPainted o (b .palette))
+  columns-kept : (o : Option Paint) → Shaded o → ByteColumns (columnPainted o (b .palette))
   unfolding storeColumns
-  columns-kept none h = let c = q .columns in record { red = c .red; green = c .green; blue = c .blue; stored = c .stored }
+  columns-kept none h = q .columns .palette
   columns-kept (some x) h =
-      let c = q .columns in
+      let c = q .columns .palette in
       record {
         red = set-column _ (x .entry) _ (c .red) (h .red);
         green = set-column _ (x .entry) _ (c .green) (h .green);
@@ -197,34 +187,20 @@ module _ (b : ColumnState) (s : State) (q : Paired b s) where
         stored = set-column _ (x .entry) 1 (c .stored) (omega arith);
       }
 
-  record WordsKept (p : List ℕ) : Type 0 where
-    length-is : length p ≡ 256
-    words : (e : ℕ) → getD p e 0 < 2 ^ 32
-
-  words-kept : (o : Option Paint) → Shaded o → WordsKept (painted o (s .palette))
-  unfolding storeEntry
-  words-kept none h = record { length-is = q .words .length-is; words = q .words .words }
-  words-kept (some x) h =
-      record {
-        length-is = length-set (s .palette) (x .entry) _ ∙ q .words .length-is;
-        words = set-lt (s .palette) (x .entry) _ (2 ^ 32) (q .words .words) (omega (arith, h .red, h .green, h .blue));
-      }
-
-  painted-ok : (o : Option Paint) → Shaded o → paletteOk (s .palette) ≡ true → paletteOk (painted o (s .palette)) ≡ true
-  painted-ok none h k = k
-  painted-ok (some x) h k = palette-kept (s .palette) (x .entry) (x .colour) h (q .words .length-is) k
-
   -- whatever is stored of the other parts
   paired-after : (p : Patch) → Shaded (p .paint) → Stage (Option·getD (p .dac) (s .dac)) → Paired (columnApplied p b) (applied p s)
   unfolding applied columnApplied
   paired-after p h g =
       let z = q .alike in
-      let c = columns-kept (p .paint) h in
-      let w = words-kept (p .paint) h in
+      let w = q .words .palette in
       let d : Option·getD (p .dac) (s .dac) ≡ Option·getD (p .dac) (b .dac) = ap (Option·getD (p .dac)) (z .dac) in
       record {
-        columns = record { red = c .red; green = c .green; blue = c .blue; stored = c .stored; stage = subst Stage d g };
-        words = record { length-is = w .length-is; words = w .words; stage = g };
+        columns = record { palette = columns-kept (p .paint) h; stage = subst Stage d g };
+        words =
+            record {
+              palette = record { length-is = painted-length (p .paint) (s .palette) (w .length-is); words = painted-lt (p .paint) (s .palette) h (w .words) };
+              stage = g;
+            };
         alike =
             record {
               width = z .width;
@@ -276,7 +252,7 @@ module _ (b : ColumnState) (s : State) (q : Paired b s) where
         let g = subst (λ (y : Patch). Stage (Option·getD (y .dac) (s .dac))) (accepted-patch e) (stage-after x a (q .words .stage)) in
         subst (λ (y : Patch). SameOutcome (columnSettled b m p (columnApplied y b) (memoryWith y m) (columnSeenBy b m a) (a .enables)) (doneBy s m p a))
         (sym (same-patch b s a (q .alike)))
-        (settled-same (columnApplied (patchOf s a) b) (applied (patchOf s a) s) _ _ ok (paired-after (patchOf s a) h g) (painted-ok (patchOf s a .paint) h ok)
+        (settled-same (columnApplied (patchOf s a) b) (applied (patchOf s a) s) _ _ ok (paired-after (patchOf s a) h g) (painted-ok (patchOf s a .paint) (s .palette) h (q .words .palette .length-is) ok)
         (same-seen b s q ok m a) (memoryWith (patchOf s a) m))
 
     pub same-step : SameOutcome (columnStep b m p a) (stepOf s m p a)
@@ -288,18 +264,26 @@ module _ (b : ColumnState) (s : State) (q : Paired b s) where
 
 -- ---- an opening
 
-zeros-column : Column (replicate 256 0)
-zeros-column = record { length-is = length-replicate {A = ℕ} 256 0; bytes = λ e. omega (arith, zeros-at 256 e) }
+zeros-column : Column (replicate entryCount 0)
+zeros-column = record { length-is = length-replicate {A = ℕ} entryCount 0; bytes = λ e. omega (arith, zeros-at entryCount e) }
 
 reset-paired : (w h f : ℕ) → Paired (columnReset w h f) (resetState w h f)
 unfolding columnReset resetState noColumns emptyPalette resetDac
 reset-paired w h f =
     record {
-      columns = record { red = zeros-column; green = zeros-column; blue = zeros-column; stored = zeros-column; stage = record { red = omega arith; green = omega arith } };
-      words = record { length-is = length-replicate {A = ℕ} 256 0; words = λ e. omega (arith, zeros-at 256 e); stage = record { red = omega arith; green = omega arith } };
+      columns =
+          record {
+            palette = record { red = zeros-column; green = zeros-column; blue = zeros-column; stored = zeros-column };
+            stage = record { red = omega arith; green = omega arith };
+          };
+      words =
+          record {
+            palette = record { length-is = length-replicate {A = ℕ} entryCount 0; words = λ e. omega (arith, zeros-at entryCount e) };
+            stage = record { red = omega arith; green = omega arith };
+          };
       alike =
           record
-          { width = refl; height = refl; fitted = refl; once = refl; values = refl; knowns = refl; dac = refl; palette = λ e l. omega (arith, zeros-at 256 e) };
+          { width = refl; height = refl; fitted = refl; once = refl; values = refl; knowns = refl; dac = refl; palette = λ e l. omega (arith, zeros-at entryCount e) };
     }
 
 pub same-opening : (w h : ℕ) (m p : List ℕ) → SameOpening (columnOpen w h m p) (openOf w h m p)

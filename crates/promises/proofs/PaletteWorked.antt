@@ -1,4 +1,4 @@
--- The two layouts of the palette at single entries: flag, red, green and blue, the word, and whether either is a state. Whole palettes of neither layout need be states to be alike.
+-- The two layouts of the palette at single entries: flag, red, green and blue, the word, and whether either is a state. Neither has to be a state.
 -- By computing. Assumes nothing.
 use Prim.Native.Nat.{ℕ}
 use mathlib.Core.Bool.{Bool, true, false}

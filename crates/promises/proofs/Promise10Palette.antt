@@ -6,7 +6,6 @@ use mathlib.Core.List.{List, [], _∷_, map}
 use mathlib.Core.Logic.{_↔_}
 use mathlib.Core.Option.{some}
 use mathlib.Core.Path.{_≡_, refl, sym, ap, ap₂, _∙_, subst}
-use native.Mathlib.Nat.{le-of-suc-le-suc}
 use native.Mathlib.Omega.{arith}
 use lib.ListN.{getD, length, length-map}
 use lib.Seq.{ext-getD}
@@ -17,17 +16,19 @@ use Rattle.chip.specs.declared.Access.{Access}
 use Rattle.chip.specs.declared.Colour.{Colour}
 use Rattle.chip.specs.Bank.{pixelMask}
 use Rattle.chip.specs.Palette.{entryCount, Shades}
-use Rattle.chip.specs.Picture.{wordOf}
+use Rattle.chip.specs.Sound.{isState}
+use Rattle.chip.specs.Picture.{drawnFrom, wordOf}
 use Rattle.chip.specs.Step.{openOf, stepOf}
 use Rattle.chip.specs.Trace.{World, opened, step, after, run}
+use Rattle.chip.proofs.Redraw.{drawn-length, drawn-at}
 use Rattle.promises.specs.Good.{Openable}
 use Rattle.promises.specs.Dots.{Indexed, Placed, dotAt, entryAt}
 use Rattle.promises.specs.Loads.{Loaded, NoLoad}
-use Rattle.promises.specs.PaletteColumns.{Columns, ColumnState, columnStep, columnOpen, ColumnWorld, columnOpened, columnTook, columnAfter, columnRun}
-use Rattle.promises.specs.PaletteAlike.{Column, TypedColumns, TypedWords, packedAt, packedFrom, wordsFor, columnsFor, Alike, Paired, SameOutcome, SameOpening, SameWorld}
+use Rattle.promises.specs.PaletteColumns.{ColumnState, isColumnState, columnStep, columnOpen, ColumnWorld, columnOpened, columnTook, columnAfter, columnRun}
+use Rattle.promises.specs.PaletteAlike.{Column, TypedColumns, TypedWords, packedAt, Paired, filled, columned, wordsFor, columnsFor, SameOutcome, SameOpening, SameWorld}
 use Rattle.promises.proofs.Dots.{entry-shades}
 use Rattle.promises.proofs.PaletteShared.{rest-bare}
-use Rattle.promises.proofs.PaletteStep.{same-step, same-opening}
+use Rattle.promises.proofs.PaletteStep.{same-state, same-step, same-opening}
 use Rattle.promises.proofs.Promise2States.{always-state}
 use Rattle.promises.proofs.Promise4Origins.{entry-exactly, entry-never}
 use Rattle.promises.proofs.Promise4Reads.{entry-zero, entry-stored}
@@ -35,33 +36,16 @@ use Rattle.promises.proofs.Promise5Picture.{word-ruled}
 
 -- ---- one to one, on all that the types can hold
 
--- a list of packed entries
-packed-length : (p : Columns) (e n : ℕ) → length (packedFrom p e n) ≡ n
-packed-length p e zero = refl
-packed-length p e (suc n) = ap suc (packed-length p (suc e) n)
-
-packed-entry : (p : Columns) (e n i : ℕ) → i < n → getD (packedFrom p e n) i 0 ≡ packedAt p (e + i)
-packed-entry p e zero i h = absurd (omega arith)
-packed-entry p e (suc n) zero h = ap (packedAt p) (let z : e ≡ e + 0 = omega arith in z)
-packed-entry p e (suc n) (suc i) h = packed-entry p (suc e) n i (le-of-suc-le-suc h) ∙ ap (packedAt p) (let z : suc e + i ≡ e + suc i = omega arith in z)
-
-packed-lt : (p : Columns) (e n b : ℕ) → ((i : ℕ) → packedAt p i < b) → 0 < b → (i : ℕ) → getD (packedFrom p e n) i 0 < b
-packed-lt p e zero b f h i = h
-packed-lt p e (suc n) b f h zero = f e
-packed-lt p e (suc n) b f h (suc i) = packed-lt p (suc e) n b f h i
-
 -- every state of columns has a state of words that is alike ..
+packed-lt : (b : ColumnState) → TypedColumns b → (e : ℕ) → packedAt (b .palette) e < 2 ^ 32
+packed-lt b t e = let c = t .palette in omega (arith, c .red .bytes e, c .green .bytes e, c .blue .bytes e, c .stored .bytes e)
+
 pub words-exist : (b : ColumnState) → TypedColumns b → Paired b (wordsFor b)
 unfolding wordsFor
 words-exist b t =
     record {
       columns = t;
-      words =
-          record {
-            length-is = packed-length (b .palette) 0 256;
-            words = packed-lt (b .palette) 0 256 (2 ^ 32) (λ i. omega (arith, t .red .bytes i, t .green .bytes i, t .blue .bytes i, t .stored .bytes i)) (omega arith);
-            stage = t .stage;
-          };
+      words = record { palette = record { length-is = drawn-length (packedAt (b .palette)) 0 entryCount; words = drawn-lt (packedAt (b .palette)) 0 entryCount (2 ^ 32) (packed-lt b t) (omega arith) }; stage = t .stage };
       alike =
           record {
             width = refl;
@@ -71,9 +55,14 @@ words-exist b t =
             values = refl;
             knowns = refl;
             dac = refl;
-            palette = λ e h. packed-entry (b .palette) 0 256 e h ∙ ap (packedAt (b .palette)) (let z : 0 + e ≡ e = omega arith in z);
+            palette = λ e h. drawn-at (packedAt (b .palette)) 0 entryCount e h ∙ ap (packedAt (b .palette)) (let z : 0 + e ≡ e = omega arith in z);
           };
     }
+  where
+    drawn-lt : (f : ℕ → ℕ) (j n k : ℕ) → ((e : ℕ) → f e < k) → 0 < k → (i : ℕ) → getD (drawnFrom f j n) i 0 < k
+    drawn-lt f j zero k g h i = h
+    drawn-lt f j (suc n) k g h zero = g j
+    drawn-lt f j (suc n) k g h (suc i) = drawn-lt f (suc j) n k g h i
 
 -- .. and every state of words one of columns ..
 pub columns-exist : (s : State) → TypedWords s → Paired (columnsFor s) s
@@ -82,10 +71,13 @@ columns-exist s t =
     record {
       columns =
           record {
-            red = record { length-is = length-map (s .palette) _ ∙ t .length-is; bytes = λ e. omega (arith, red e) };
-            green = record { length-is = length-map (s .palette) _ ∙ t .length-is; bytes = λ e. omega (arith, green e) };
-            blue = record { length-is = length-map (s .palette) _ ∙ t .length-is; bytes = λ e. omega (arith, blue e) };
-            stored = record { length-is = length-map (s .palette) _ ∙ t .length-is; bytes = λ e. omega (arith, flag e, t .words e) };
+            palette =
+                record {
+                  red = record { length-is = length-map (s .palette) _ ∙ t .palette .length-is; bytes = λ e. omega (arith, red e) };
+                  green = record { length-is = length-map (s .palette) _ ∙ t .palette .length-is; bytes = λ e. omega (arith, green e) };
+                  blue = record { length-is = length-map (s .palette) _ ∙ t .palette .length-is; bytes = λ e. omega (arith, blue e) };
+                  stored = record { length-is = length-map (s .palette) _ ∙ t .palette .length-is; bytes = λ e. omega (arith, flag e, t .palette .words e) };
+                };
             stage = t .stage;
           };
       words = t;
@@ -115,19 +107,11 @@ columns-exist s t =
     flag e = getD-map (λ (w : ℕ). w / 0x1000000) (s .palette) e 0 refl
 
 -- .. and no second: a state is what it is without its palette, and its palette
-abbrev filled : State → List ℕ → State
-filled x p =
-    record { width = x .width; height = x .height; fitted = x .fitted; once = x .once; values = x .values; knowns = x .knowns; dac = x .dac; palette = p }
-
 pub words-one : (b : ColumnState) (s t : State) → Paired b s → Paired b t → s ≡ t
 words-one b s t p q =
     ap₂ filled (sym (rest-bare b s (p .alike)) ∙ rest-bare b t (q .alike))
-    (ext-getD 0 (s .palette) (t .palette) (p .words .length-is ∙ sym (q .words .length-is))
-    (λ e h. let i : e < 256 = omega (arith, h, p .words .length-is) in p .alike .palette e i ∙ sym (q .alike .palette e i)))
-
-abbrev columned : State → Columns → ColumnState
-columned x p =
-    record { width = x .width; height = x .height; fitted = x .fitted; once = x .once; values = x .values; knowns = x .knowns; dac = x .dac; palette = p }
+    (ext-getD 0 (s .palette) (t .palette) (p .words .palette .length-is ∙ sym (q .words .palette .length-is))
+    (λ e h. let i : e < entryCount = omega (arith, h, p .words .palette .length-is) in p .alike .palette e i ∙ sym (q .alike .palette e i)))
 
 module _ (b c : ColumnState) (s : State) (p : Paired b s) (q : Paired c s) where
   -- the four bytes of an entry are those of its word
@@ -137,12 +121,12 @@ module _ (b c : ColumnState) (s : State) (p : Paired b s) (q : Paired c s) where
     blue : getD (b .palette .blue) e 0 ≡ getD (c .palette .blue) e 0
     stored : getD (b .palette .stored) e 0 ≡ getD (c .palette .stored) e 0
 
-  same-bytes : (e : ℕ) → e < 256 → SameBytes e
+  same-bytes : (e : ℕ) → e < entryCount → SameBytes e
   same-bytes e h =
       let z = p .alike .palette e h in
       let y = q .alike .palette e h in
-      let u = p .columns in
-      let v = q .columns in
+      let u = p .columns .palette in
+      let v = q .columns .palette in
       record {
         red = omega (arith, z, y, u .red .bytes e, u .green .bytes e, u .blue .bytes e, v .red .bytes e, v .green .bytes e, v .blue .bytes e);
         green = omega (arith, z, y, u .red .bytes e, u .green .bytes e, u .blue .bytes e, v .red .bytes e, v .green .bytes e, v .blue .bytes e);
@@ -150,13 +134,13 @@ module _ (b c : ColumnState) (s : State) (p : Paired b s) (q : Paired c s) where
         stored = omega (arith, z, y, u .red .bytes e, u .green .bytes e, u .blue .bytes e, v .red .bytes e, v .green .bytes e, v .blue .bytes e);
       }
 
-  one-column : (l k : List ℕ) → Column l → Column k → ((e : ℕ) → e < 256 → getD l e 0 ≡ getD k e 0) → l ≡ k
+  one-column : (l k : List ℕ) → Column l → Column k → ((e : ℕ) → e < entryCount → getD l e 0 ≡ getD k e 0) → l ≡ k
   one-column l k u v f = ext-getD 0 l k (u .length-is ∙ sym (v .length-is)) (λ e h. f e (omega (arith, h, u .length-is)))
 
   pub columns-one : b ≡ c
   columns-one =
-      let u = p .columns in
-      let v = q .columns in
+      let u = p .columns .palette in
+      let v = q .columns .palette in
       ap₂ columned (rest-bare b s (p .alike) ∙ sym (rest-bare c s (q .alike)))
       (ap₂ (λ (r g : List ℕ). record { red = r; green = g; blue = b .palette .blue; stored = b .palette .stored })
       (one-column _ _ (u .red) (v .red) (λ e h. same-bytes e h .red)) (one-column _ _ (u .green) (v .green) (λ e h. same-bytes e h .green))
@@ -164,6 +148,10 @@ module _ (b c : ColumnState) (s : State) (p : Paired b s) (q : Paired c s) where
       (one-column _ _ (u .blue) (v .blue) (λ e h. same-bytes e h .blue)) (one-column _ _ (u .stored) (v .stored) (λ e h. same-bytes e h .stored)))
 
 -- ---- every access, every opening, every list of accesses
+
+-- refusal 1 refuses the same states
+pub layouts-states : (b : ColumnState) (s : State) → Paired b s → isState s ≡ isColumnState b
+layouts-states = same-state
 
 pub layouts-access : (b : ColumnState) (s : State) → Paired b s → (m p : List ℕ) (a : Access) → SameOutcome (columnStep b m p a) (stepOf s m p a)
 layouts-access = same-step

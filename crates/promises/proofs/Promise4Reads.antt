@@ -74,7 +74,7 @@ entry-unstored p e = (
 pub entry-zero : (s : State) (e : ℕ) → isState s ≡ true → e < entryCount → (entryOf (s .palette) e ≡ none) ↔ (getD (s .palette) e 0 ≡ 0)
 unfolding paletteOk entryOk wordOk isStored
 entry-zero s e k h = (
-  (λ n. byTest (eqb (getD (s .palette) e 0) 0) (λ z. eqb-true _ 0 z) (λ z. absurd (entry-unstored (s .palette) e .0 n (eqb-true _ 1 (or-second (eqb (getD (s .palette) e 0) 0) (isStored (getD (s .palette) e 0)) z tested))))),
+  (λ n. eqb-true _ 0 (or-second (isStored (getD (s .palette) e 0)) (eqb (getD (s .palette) e 0) 0) (ne-eqb (getD (s .palette) e 0 / 0x1000000) 1 (entry-unstored (s .palette) e .0 n)) tested)),
   (λ z. entry-unstored (s .palette) e .1 (λ y. omega (arith, y, z))),
 )
   where

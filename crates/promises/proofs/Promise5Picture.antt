@@ -1,21 +1,24 @@
 -- Promise 5, demand 3 on the definitions. After an opening and any list of reads, writes and looks, refused ones among them, the picture equals the picture drawn afresh, each
 -- dot's word is the one of 01's rules, and each changed count is the number of dots that differ. From the laws of Pictures and Dots.
 -- Assumes nothing.
-use Prim.Native.Nat.{ℕ, zero, suc, _+_, _*_, _<_}
+use Prim.Native.Nat.{ℕ, suc, _+_, _*_, _<_}
 use mathlib.Core.List.{List, [], _∷_}
+use mathlib.Core.Option.{some}
 use mathlib.Core.Path.{_≡_, refl, sym, ap, ap₂, _∙_, subst}
-use native.Mathlib.Nat.{le-of-suc-le-suc}
 use native.Mathlib.Omega.{arith}
 use lib.Dec.{eqb}
 use lib.ListN.{getD, length}
 use Rattle.bits.proofs.Cases.{byTest}
 use Rattle.chip.specs.declared.State.{State}
 use Rattle.chip.specs.declared.Access.{Access}
+use Rattle.chip.specs.declared.Colour.{Colour}
+use Rattle.chip.specs.Palette.{Shades, entryOf}
 use Rattle.chip.specs.Step.{openOf}
-use Rattle.chip.specs.Picture.{diffs, drawnFrom, drawn, wordOf}
+use Rattle.chip.specs.Picture.{diffs, drawn, wordOf}
 use Rattle.chip.specs.Trace.{World, opened, step, after, run}
+use Rattle.chip.proofs.Redraw.{drawn-length, drawn-at}
 use Rattle.promises.specs.Good.{Openable}
-use Rattle.promises.specs.Dots.{ByteColours, Ruled, dotsChanged}
+use Rattle.promises.specs.Dots.{Ruled, dotsChanged}
 use Rattle.promises.proofs.Worlds.{memory-length, picture-length}
 use Rattle.promises.proofs.Pictures.{right-along, opened-right, counted}
 use Rattle.promises.proofs.Dots.{entry-shades, rules}
@@ -41,20 +44,13 @@ lengths-stay x a = (memory-length x a, picture-length x a)
 
 -- ---- each dot, by the rules
 
--- dot i of a picture drawn afresh
-drawn-at : (f : ℕ → ℕ) (j n i : ℕ) → i < length (drawnFrom f j n) → getD (drawnFrom f j n) i 0 ≡ f (j + i)
-drawn-at f j zero i h = absurd (omega arith)
-drawn-at f j (suc n) zero h = ap f (let e : j ≡ j + 0 = omega arith in e)
-drawn-at f j (suc n) (suc i) h =
-    drawn-at f (suc j) n i (le-of-suc-le-suc h) ∙ ap f (let e : suc j + i ≡ j + suc i = omega arith in e)
-
 dot-of : (s : State) (m : List ℕ) (i : ℕ) → i < length (drawn s m) → getD (drawn s m) i 0 ≡ wordOf s m i
 unfolding drawn
-dot-of s m i h = drawn-at (wordOf s m) 0 (s .width * s .height) i h ∙ ap (wordOf s m) (let e : 0 + i ≡ i = omega arith in e)
+dot-of s m i h = drawn-at (wordOf s m) 0 (s .width * s .height) i (omega (arith, h, drawn-length (wordOf s m) 0 (s .width * s .height))) ∙ ap (wordOf s m) (let e : 0 + i ≡ i = omega arith in e)
 
 -- what an entry holds are bytes, whatever word it is (02, C-15)
-pub byte-colours : (p : List ℕ) → ByteColours p
-byte-colours p e h c k = entry-shades p e c k
+pub byte-colours : (p : List ℕ) (e : ℕ) (c : Colour) → entryOf p e ≡ some c → Shades c
+byte-colours = entry-shades
 
 -- the word of a dot, of any state, is the one of 01's rules
 pub word-ruled : (s : State) (m : List ℕ) (i : ℕ) → Ruled s m i (wordOf s m i)

@@ -1,21 +1,26 @@
--- What an access stages, and the colour of an entry that it stores, are bytes, where what was staged before is.
+-- What an access stages, and the colour of an entry that it stores, are bytes, where what was staged before is; so the palette after it is one of words that refusal 1 passes.
 -- From what an access stores, part by part (Does); a written byte is one by its lane and width. Assumes nothing.
-use Prim.Native.Nat.{ℕ, _<_}
-use mathlib.Core.Bool.{Bool, _&&_}
+use Prim.Native.Nat.{ℕ, _^_, _<_}
+use mathlib.Core.Bool.{true, _&&_}
+use mathlib.Core.List.{List}
 use mathlib.Core.Option.{Option, none, some, Option·getD}
-use mathlib.Core.Path.{_≡_, sym, subst}
+use mathlib.Core.Path.{_≡_, sym, _∙_, subst}
 use native.Mathlib.Omega.{arith}
 use lib.Dec.{eqb, ltb}
+use lib.ListN.{getD, length, length-set}
 use Rattle.bits.specs.Word.{laneByte}
 use Rattle.bits.proofs.Cases.{pick-by}
+use Rattle.bits.proofs.Lists.{set-lt}
 use Rattle.chip.specs.declared.State.{State}
 use Rattle.chip.specs.declared.Access.{Access}
 use Rattle.chip.specs.declared.Dac.{Dac}
-use Rattle.chip.specs.Palette.{Shades}
+use Rattle.chip.specs.Palette.{entryCount, Shades, storeEntry, paletteOk}
 use Rattle.chip.specs.Dac.{Paint, aimedAt, advanced, redStaged, bothStaged, afterFetch, afterPaint, completedBy}
+use Rattle.chip.specs.Patch.{painted}
 use Rattle.chip.specs.Port.{keptFrom}
 use Rattle.chip.specs.Access.{isWrite}
 use Rattle.chip.specs.Trace.{World}
+use Rattle.chip.proofs.Entries.{palette-kept}
 use Rattle.promises.specs.Good.{Stage}
 use Rattle.promises.specs.History.{isAim, isData}
 use Rattle.promises.proofs.Patches.{patchAt}
@@ -66,3 +71,19 @@ paint-shaded x a h =
     (pick-by Shaded (eqb (x .state .dac .component) 2 && bothStaged (x .state .dac)) _ none
     (record { red = h .red; green = h .green; blue = kept-lt (x .state) a }) tt)
     tt)
+
+-- ---- the palette after it
+
+pub painted-length : (o : Option Paint) (p : List ℕ) → length p ≡ entryCount → length (painted o p) ≡ entryCount
+unfolding storeEntry
+painted-length none p l = l
+painted-length (some x) p l = length-set p (x .entry) _ ∙ l
+
+pub painted-ok : (o : Option Paint) (p : List ℕ) → Shaded o → length p ≡ entryCount → paletteOk p ≡ true → paletteOk (painted o p) ≡ true
+painted-ok none p h l k = k
+painted-ok (some x) p h l k = palette-kept p (x .entry) (x .colour) h l k
+
+pub painted-lt : (o : Option Paint) (p : List ℕ) → Shaded o → ((e : ℕ) → getD p e 0 < 2 ^ 32) → (e : ℕ) → getD (painted o p) e 0 < 2 ^ 32
+unfolding storeEntry
+painted-lt none p h f = f
+painted-lt (some x) p h f = set-lt p (x .entry) _ (2 ^ 32) f (omega (arith, h .red, h .green, h .blue))

@@ -20,9 +20,9 @@ use Rattle.chip.specs.declared.Dac.{Dac}
 use Rattle.chip.specs.declared.Access.{Access}
 use Rattle.chip.specs.Row.{Row, absent}
 use Rattle.chip.specs.Bank.{bankRows, bankRow}
-use Rattle.chip.specs.Palette.{entryCount, emptyPalette, storeEntry}
-use Rattle.chip.specs.Dac.{Paint, resetDac}
-use Rattle.chip.specs.Patch.{Store, valued, learned, painted, applied}
+use Rattle.chip.specs.Palette.{entryCount, emptyPalette}
+use Rattle.chip.specs.Dac.{resetDac}
+use Rattle.chip.specs.Patch.{Store, valued, learned, applied}
 use Rattle.chip.specs.Place.{placeOf}
 use Rattle.chip.specs.Port.{rowPatch}
 use Rattle.chip.specs.State.{resetState}
@@ -36,7 +36,7 @@ use Rattle.promises.specs.Loads.{disturbs}
 use Rattle.promises.specs.Refusals.{Words}
 use Rattle.promises.proofs.Bank.{stored-lt}
 use Rattle.promises.proofs.Patches.{patchAt}
-use Rattle.promises.proofs.Stages.{Shaded, paint-shaded}
+use Rattle.promises.proofs.Stages.{paint-shaded, painted-lt}
 use Rattle.promises.proofs.Does.{storeFrom, writes, does}
 use Rattle.promises.proofs.Worlds.{after-state, good-kept, opens, opened-good}
 use Rattle.promises.proofs.Only.{aim-after, data-after, calm-after}
@@ -92,11 +92,6 @@ module _ (s : State) (a : Access) (h : Words s) where
   knowns-from none k = h .knowns k
   knowns-from (some i) k = set-lt (s .knowns) i _ (2 ^ 32) (h .knowns) (joined-lt _ _ (h .knowns i) (stored-lt (s .once) i (a .enables) (a .word))) k
 
-  palette-from : (o : Option Paint) → Shaded o → (k : ℕ) → getD (painted o (s .palette)) k 0 < 2 ^ 32
-  unfolding storeEntry
-  palette-from none g k = h .palette k
-  palette-from (some x) g k = set-lt (s .palette) (x .entry) _ (2 ^ 32) (h .palette) (omega (arith, g .red, g .green, g .blue)) k
-
 known-after : (x : World) (a : Access) → Good x → Words (x .state) → after x a .state .dac .known < 2 ^ 32
 unfolding disturbs
 known-after x a g h =
@@ -119,7 +114,7 @@ words-kept x a g h =
       knowns = λ k.
           subst (λ (l : List ℕ). getD l k 0 < 2 ^ 32) (sym (ap (λ (s : State). s .knowns) e ∙ ap (λ (o : Option Store). learned o (x .state .knowns)) (z .store)))
           (pick-by (λ (o : Option Store). getD (learned o (x .state .knowns)) k 0 < 2 ^ 32) (writes x a) _ none (knowns-from (x .state) a h (reachAt (placeOf (x .state) a) .row) k) (h .knowns k));
-      palette = λ k. subst (λ (l : List ℕ). getD l k 0 < 2 ^ 32) (sym (ap (λ (s : State). s .palette) e)) (palette-from (x .state) a h (patchAt x a .paint) (paint-shaded x a (g .formed .stage)) k);
+      palette = λ k. subst (λ (l : List ℕ). getD l k 0 < 2 ^ 32) (sym (ap (λ (s : State). s .palette) e)) (painted-lt (patchAt x a .paint) (x .state .palette) (paint-shaded x a (g .formed .stage)) (h .palette) k);
       address = known-after x a g h;
     }
 

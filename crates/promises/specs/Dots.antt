@@ -13,7 +13,7 @@ use Rattle.bits.specs.Word.{inside}
 use Rattle.chip.specs.declared.State.{State}
 use Rattle.chip.specs.declared.Colour.{Colour}
 use Rattle.chip.specs.Bank.{bankRow, screenBase, screenStride, pixelMask, colorMode}
-use Rattle.chip.specs.Palette.{entryCount, Shades, entryOf}
+use Rattle.chip.specs.Palette.{Shades, entryOf}
 
 -- rule 1 does not apply: RDColorMode is pixel format 0 (bits 0 to 3) with the GUI bit (4) set
 pub record Indexed (s : State) : Type 0 where
@@ -38,10 +38,6 @@ dotAt s i =
 -- the palette entry at (byte AND pixel mask)
 unfoldable pub entryAt : State → List ℕ → ℕ → Option Colour
 entryAt s m i = entryOf (s .palette) (inside (getD m (dotAt s i) 0) (getD (s .values) pixelMask 0 % 256))
-
--- every stored entry has a colour of bytes
-abbrev pub ByteColours : List ℕ → Type 0
-ByteColours p = (e : ℕ) → e < entryCount → (c : Colour) → entryOf p e ≡ some c → Shades c
 
 -- what word w of dot i says, each exactly where its rule is the first that applies
 pub record Ruled (s : State) (m : List ℕ) (i w : ℕ) : Type 0 where

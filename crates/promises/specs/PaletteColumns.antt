@@ -17,6 +17,7 @@ use Rattle.chip.specs.declared.Seen.{Seen}
 use Rattle.chip.specs.declared.Place.{Place}
 use Rattle.chip.specs.declared.Place.the-variants.{Register, Address, PaletteData, Window, Blank, Nowhere}
 use Rattle.chip.specs.Bank.{bankResets, bankKnowns}
+use Rattle.chip.specs.Palette.{entryCount}
 use Rattle.chip.specs.Dac.{Paint, resetDac}
 use Rattle.chip.specs.Access.{isWrite}
 use Rattle.chip.specs.Place.{placeOf}
@@ -38,13 +39,15 @@ pub record Columns : Type 0 where
 
 -- nothing stored
 unfoldable pub noColumns : Columns
-noColumns = record { red = replicate 256 0; green = replicate 256 0; blue = replicate 256 0; stored = replicate 256 0 }
+noColumns =
+    record { red = replicate entryCount 0; green = replicate entryCount 0; blue = replicate entryCount 0; stored = replicate entryCount 0 }
 
--- the colour of an entry, or nothing for one never stored
+-- an entry's flag, red, green and blue: the colour that they hold, or nothing for an entry never stored
+abbrev pub bytesEntry : (f r g b : ℕ) → Option Colour
+bytesEntry f r g b = pick (eqb f 0) none (some (record { red = r; green = g; blue = b }))
+
 unfoldable pub columnEntry : Columns → ℕ → Option Colour
-columnEntry p e =
-    pick (eqb (getD (p .stored) e 0) 0) none
-    (some (record { red = getD (p .red) e 0; green = getD (p .green) e 0; blue = getD (p .blue) e 0 }))
+columnEntry p e = bytesEntry (getD (p .stored) e 0) (getD (p .red) e 0) (getD (p .green) e 0) (getD (p .blue) e 0)
 
 unfoldable pub storeColumns : Columns → ℕ → Colour → Columns
 storeColumns p e c =
@@ -52,14 +55,14 @@ storeColumns p e c =
     { red = set (p .red) e (c .red); green = set (p .green) e (c .green); blue = set (p .blue) e (c .blue); stored = set (p .stored) e 1 }
 
 -- refusal 1: a flag is 0 or 1, and what was never stored is zero
+abbrev pub bytesOk : (f r g b : ℕ) → Bool
+bytesOk f r g b = pick (eqb f 0) (eqb r 0 && (eqb g 0 && eqb b 0)) (eqb f 1)
+
 unfoldable pub columnOk : Columns → ℕ → Bool
-columnOk p e =
-    pick (eqb (getD (p .stored) e 0) 0)
-    (eqb (getD (p .red) e 0) 0 && (eqb (getD (p .green) e 0) 0 && eqb (getD (p .blue) e 0) 0))
-    (eqb (getD (p .stored) e 0) 1)
+columnOk p e = bytesOk (getD (p .stored) e 0) (getD (p .red) e 0) (getD (p .green) e 0) (getD (p .blue) e 0)
 
 unfoldable pub columnsOk : Columns → Bool
-columnsOk p = everyTo (columnOk p) 256
+columnsOk p = everyTo (columnOk p) entryCount
 
 -- ---- the state
 
@@ -77,7 +80,7 @@ unfoldable pub columnReset : ℕ → ℕ → ℕ → ColumnState
 columnReset w h f =
     record { width = w; height = h; fitted = f; once = 0; values = bankResets; knowns = bankKnowns; dac = resetDac; palette = noColumns }
 
--- for what is shared: a state with no palette at all. Nothing that is taken of a shared definition depends on it (proofs/PaletteShared)
+-- for what is shared: a state with no palette at all. Nothing that is taken of a shared definition depends on it (proofs/PaletteShared and PaletteStep)
 abbrev pub restOf : ColumnState → State
 restOf b =
     record {

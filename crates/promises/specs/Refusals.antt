@@ -1,4 +1,4 @@
--- The refusals in 01's words: what each line of its table asks (01, An access and its answer; docs/DECISIONS.md, D-22, D-27, D-29 and D-42).
+-- The refusals in 01's words: what each line of its table asks (01, An access and its answer; docs/DECISIONS.md, D-22, D-27, D-42 and D-43).
 use Prim.Native.Nat.{ℕ, _+_, _*_, _/_, _%_, _^_, _≤_, _<_}
 use mathlib.Core.Bool.{Bool, true, false, _||_}
 use mathlib.Core.Logic.{_↔_, _⊎_}

@@ -1,6 +1,6 @@
 -- `palette::entries::palette_sound` is the definition. The invariant: the largest turned word so far is at most 01000000h exactly where every entry passed.
 -- The measure is what is left of 256. Assumes nothing.
-use Prim.Native.Nat.{ℕ, _≤_, _-_}
+use Prim.Native.Nat.{_≤_, _-_}
 use mathlib.Core.Path.{_≡_, refl, _∙_}
 use denote.Ref.{now}
 use lib.Dec.{leb}

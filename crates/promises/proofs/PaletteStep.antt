@@ -58,7 +58,7 @@ module _ (f r g b w : ℕ) (h : Entry f r g b w) where
   top : w / 0x1000000 ≡ f
   top = omega (arith, h .red, h .green, h .blue, h .word)
 
-  -- the word is zero exactly where all four are
+  -- a word of zero has four parts of zero
   zero-parts : w ≡ 0 → (f ≡ 0) × (r ≡ 0) × (g ≡ 0) × (b ≡ 0)
   zero-parts z = (omega (arith, z, h .word), omega (arith, z, h .word), omega (arith, z, h .word), omega (arith, z, h .word))
 

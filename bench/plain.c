@@ -59,7 +59,7 @@ static int row_reads(unsigned row) {
     return !(row >= PM_ROW_RD_PIXEL_CLOCK_A1 && row <= PM_ROW_RD_PIXEL_CLOCK_C3) && !(row >= PM_ROW_RD_MEMORY_CLOCK_1 && row <= PM_ROW_RD_MEMORY_CLOCK_3);
 }
 
-static int row_writes(unsigned row) { return row != PM_ROW_FRAMEBUFFER_WRITE_MASK && row != PM_ROW_COUNT; }
+static int row_writes(unsigned row) { return row != PM_ROW_FRAMEBUFFER_WRITE_MASK && row != PM_ROW_COUNT_1180H; }
 
 static const uint32_t lanes_of[16] = {
     0x00000000, 0x000000FF, 0x0000FF00, 0x0000FFFF, 0x00FF0000, 0x00FF00FF, 0x00FFFF00, 0x00FFFFFF, 0xFF000000, 0xFF0000FF, 0xFF00FF00, 0xFF00FFFF,
@@ -266,16 +266,8 @@ static uint32_t control_of(const struct pm_state *s, uint32_t target) {
 
 /* ---- a read, a write and a look: what they share ---- */
 
-static struct plain_answer answer(uint32_t status, uint32_t word, uint32_t known, uint32_t changed) {
-    struct plain_answer r = { status, word, known, changed };
-    return r;
-}
-
-static struct plain_answer refused(uint32_t status) { return answer(status, 0, 0, 0); }
-
-/* refusals 1 to 4 */
+/* refusals 2 to 4 */
 static uint32_t form_status(const struct pm_state *s, const struct asked *a, size_t memory_length, size_t picture_length) {
-    if (!is_state(s)) return PM_NO_STATE;
     if (memory_length != s->fitted || picture_length != (size_t)s->width * s->height) return PM_WRONG_LENGTH;
     if (a->target > 3 || a->enables > 15) return PM_BAD_FORM;
     return a->offset % 4 ? PM_UNALIGNED : PM_DONE;
@@ -289,43 +281,49 @@ static unsigned region_row(const struct pm_state *s, uint32_t offset) {
 
 /* ---- a look, and a read, which is a look that steps ---- */
 
-static struct plain_answer seen(uint32_t value, uint32_t known, uint32_t enables) {
+static struct pm_reply not_seen(uint32_t status) {
+    struct pm_reply r = { status, 0, 0 };
+    return r;
+}
+
+static struct pm_reply seen(uint32_t value, uint32_t known, uint32_t enables) {
     known &= lanes_of[enables];
-    return answer(PM_DONE, value & known, known, 0);
+    struct pm_reply r = { PM_DONE, value & known, known };
+    return r;
 }
 
-static struct plain_answer register_seen(const struct pm_state *s, unsigned row, uint32_t enables) {
-    return row_reads(row) ? seen(s->values[row], s->knowns[row], enables) : refused(PM_NO_DIRECTION);
+static struct pm_reply register_seen(const struct pm_state *s, unsigned row, uint32_t enables) {
+    return row_reads(row) ? seen(s->values[row], s->knowns[row], enables) : not_seen(PM_NO_DIRECTION);
 }
 
-static struct plain_answer data_seen(const struct pm_state *s, uint32_t enables) {
+static struct pm_reply data_seen(const struct pm_state *s, uint32_t enables) {
     const struct pm_dac *d = &s->dac;
-    if (d->known != 0xFF) return refused(PM_NOTHING_HERE);
+    if (d->known != 0xFF) return not_seen(PM_NOTHING_HERE);
     uint32_t w = s->palette[d->address], v = w >> 8 * (2 - d->component) & 0xFF;
     return seen(s->values[PM_ROW_RD_MISC_CONTROL] & 2 ? v : v / 4, w ? 0xFF : 0, enables);
 }
 
-static struct plain_answer region_seen(const struct pm_state *s, const struct asked *a) {
+static struct pm_reply region_seen(const struct pm_state *s, const struct asked *a) {
     if (a->offset == 0x4000 || a->offset == 0x4018) return seen(s->dac.address, s->dac.known, a->enables);
     if (a->offset == 0x4008) return data_seen(s, a->enables);
     unsigned row = region_row(s, a->offset);
-    return row ? register_seen(s, row - 1, a->enables) : refused(PM_NOTHING_HERE);
+    return row ? register_seen(s, row - 1, a->enables) : not_seen(PM_NOTHING_HERE);
 }
 
-static struct plain_answer window_seen(const struct pm_state *s, const struct asked *a, const uint8_t *memory) {
+static struct pm_reply window_seen(const struct pm_state *s, const struct asked *a, const uint8_t *memory) {
     uint32_t control = control_of(s, a->target), status = window_status(s, control, a->offset);
-    return status ? refused(status) : seen(read_memory(a->offset, control & 3, memory), ALL, a->enables);
+    return status ? not_seen(status) : seen(read_memory(a->offset, control & 3, memory), ALL, a->enables);
 }
 
-static struct plain_answer header_seen(const struct pm_state *s, const struct asked *a) {
-    if (a->offset > 0xFC) return refused(PM_NOTHING_HERE);
+static struct pm_reply header_seen(const struct pm_state *s, const struct asked *a) {
+    if (a->offset > 0xFC) return not_seen(PM_NOTHING_HERE);
     unsigned row = header_at[a->offset / 4];
     return row ? register_seen(s, row - 1, a->enables) : seen(0, ALL, a->enables);
 }
 
-static struct plain_answer seen_at(const struct pm_state *s, const struct asked *a, const uint8_t *memory, size_t memory_length, size_t picture_length) {
+static struct pm_reply seen_at(const struct pm_state *s, const struct asked *a, const uint8_t *memory, size_t memory_length, size_t picture_length) {
     uint32_t status = form_status(s, a, memory_length, picture_length);
-    if (status) return refused(status);
+    if (status) return not_seen(status);
     switch (a->target) {
     case PM_REGION_0: return region_seen(s, a);
     case PM_CONFIGURATION: return header_seen(s, a);
@@ -333,10 +331,11 @@ static struct plain_answer seen_at(const struct pm_state *s, const struct asked 
     }
 }
 
-struct plain_answer plain_look(const struct pm_state *s, uint32_t target, uint32_t offset, uint32_t enables, const uint8_t *memory, size_t memory_length,
-    size_t picture_length) {
+struct pm_reply plain_look(const struct pm_state *s, uint32_t target, uint32_t offset, uint32_t enables, const uint8_t *memory, size_t memory_length,
+    const uint32_t *picture, size_t picture_length) {
+    (void)picture;
     struct asked a = { target, offset, enables, 0 };
-    return seen_at(s, &a, memory, memory_length, picture_length);
+    return is_state(s) ? seen_at(s, &a, memory, memory_length, picture_length) : not_seen(PM_NO_STATE);
 }
 
 /* every read and write of palette data advances the component, and after 2 the address */
@@ -352,26 +351,41 @@ static void advance(struct pm_dac *d, uint8_t staged, uint8_t red, uint8_t green
     d->green = green;
 }
 
-struct plain_answer plain_read(struct pm_state *s, uint32_t target, uint32_t offset, uint32_t enables, const uint8_t *memory, size_t memory_length,
-    size_t picture_length) {
+struct pm_reply plain_sure_read(struct pm_state *s, uint32_t target, uint32_t offset, uint32_t enables, const uint8_t *memory, size_t memory_length,
+    const uint32_t *picture, size_t picture_length) {
+    (void)picture;
     struct asked a = { target, offset, enables, 0 };
-    struct plain_answer r = seen_at(s, &a, memory, memory_length, picture_length);
+    struct pm_reply r = seen_at(s, &a, memory, memory_length, picture_length);
     if (r.status == PM_DONE && target == PM_REGION_0 && offset == 0x4008 && (enables & 1)) advance(&s->dac, 0, 0, 0);
     return r;
 }
 
+struct pm_reply plain_read(struct pm_state *s, uint32_t target, uint32_t offset, uint32_t enables, const uint8_t *memory, size_t memory_length,
+    const uint32_t *picture, size_t picture_length) {
+    if (!is_state(s)) return not_seen(PM_NO_STATE);
+    return plain_sure_read(s, target, offset, enables, memory, memory_length, picture, picture_length);
+}
+
 /* ---- a write ---- */
 
-static struct plain_answer written(uint32_t changed) { return answer(PM_DONE, 0, 0, changed); }
+static struct pm_wrote not_written(uint32_t status) {
+    struct pm_wrote r = { status, 0 };
+    return r;
+}
 
-static struct plain_answer write_window(const struct pm_state *s, const struct asked *a, uint8_t *memory, uint32_t *picture) {
+static struct pm_wrote written(uint32_t changed) {
+    struct pm_wrote r = { PM_DONE, changed };
+    return r;
+}
+
+static struct pm_wrote write_window(const struct pm_state *s, const struct asked *a, uint8_t *memory, uint32_t *picture) {
     uint32_t control = control_of(s, a->target), status = window_status(s, control, a->offset);
-    return status ? refused(status) : written(write_memory(s, a, control & 3, memory, picture));
+    return status ? not_written(status) : written(write_memory(s, a, control & 3, memory, picture));
 }
 
 /* any register of the bank */
-static struct plain_answer write_register(struct pm_state *s, const struct asked *a, unsigned row, const uint8_t *memory, uint32_t *picture) {
-    if (!row_writes(row)) return refused(PM_NO_DIRECTION);
+static struct pm_wrote write_register(struct pm_state *s, const struct asked *a, unsigned row, const uint8_t *memory, uint32_t *picture) {
+    if (!row_writes(row)) return not_written(PM_NO_DIRECTION);
     uint32_t bits = row_writable[row], word = a->word;
     if (row == PM_ROW_CFG_SUBSYSTEM) { /* D-17: a half is fixed by the first write with both of its lanes */
         uint32_t halves = ((a->enables & 3) == 3 ? 1u : 0u) | ((a->enables & 12) == 12 ? 2u : 0u);
@@ -392,15 +406,15 @@ static struct plain_answer write_register(struct pm_state *s, const struct asked
     return written(shows ? redraw(s, from, view_of(s), memory, picture) : 0);
 }
 
-static struct plain_answer write_header(struct pm_state *s, const struct asked *a, const uint8_t *memory, uint32_t *picture) {
-    if (a->offset > 0xFC) return refused(PM_NOTHING_HERE);
+static struct pm_wrote write_header(struct pm_state *s, const struct asked *a, const uint8_t *memory, uint32_t *picture) {
+    if (a->offset > 0xFC) return not_written(PM_NOTHING_HERE);
     unsigned row = header_at[a->offset / 4];
     return row ? write_register(s, a, row - 1, memory, picture) : written(0);
 }
 
-static struct plain_answer write_data(struct pm_state *s, const struct asked *a, const uint8_t *memory, uint32_t *picture) {
+static struct pm_wrote write_data(struct pm_state *s, const struct asked *a, const uint8_t *memory, uint32_t *picture) {
     struct pm_dac *d = &s->dac;
-    if (d->known != 0xFF) return refused(PM_NOTHING_HERE);
+    if (d->known != 0xFF) return not_written(PM_NOTHING_HERE);
     if (!(a->enables & 1)) return written(0);
     unsigned e = d->address;
     uint32_t w = a->word % 64;
@@ -420,21 +434,21 @@ static struct plain_answer write_data(struct pm_state *s, const struct asked *a,
     return written(0);
 }
 
-static struct plain_answer write_region(struct pm_state *s, const struct asked *a, const uint8_t *memory, uint32_t *picture) {
+static struct pm_wrote write_region(struct pm_state *s, const struct asked *a, const uint8_t *memory, uint32_t *picture) {
     if (a->offset == 0x4008) return write_data(s, a, memory, picture);
     if (a->offset == 0x4000 || a->offset == 0x4018) { /* RDPaletteWriteAddress and RDPaletteReadAddress: one address */
         if (a->enables & 1) s->dac = (struct pm_dac){ .address = (uint8_t)a->word, .known = 0xFF };
         return written(0);
     }
     unsigned row = region_row(s, a->offset);
-    return row ? write_register(s, a, row - 1, memory, picture) : refused(PM_NOTHING_HERE);
+    return row ? write_register(s, a, row - 1, memory, picture) : not_written(PM_NOTHING_HERE);
 }
 
-struct plain_answer plain_write(struct pm_state *s, uint32_t target, uint32_t offset, uint32_t enables, uint32_t word, uint8_t *memory, size_t memory_length,
-    uint32_t *picture, size_t picture_length) {
+struct pm_wrote plain_sure_write(struct pm_state *s, uint32_t target, uint32_t offset, uint32_t enables, uint32_t word, uint8_t *memory,
+    size_t memory_length, uint32_t *picture, size_t picture_length) {
     struct asked a = { target, offset, enables, word };
     uint32_t status = form_status(s, &a, memory_length, picture_length);
-    if (status) return refused(status);
+    if (status) return not_written(status);
     switch (target) {
     case PM_REGION_0: return write_region(s, &a, memory, picture);
     case PM_CONFIGURATION: return write_header(s, &a, memory, picture);
@@ -442,15 +456,50 @@ struct plain_answer plain_write(struct pm_state *s, uint32_t target, uint32_t of
     }
 }
 
+struct pm_wrote plain_write(struct pm_state *s, uint32_t target, uint32_t offset, uint32_t enables, uint32_t word, uint8_t *memory, size_t memory_length,
+    uint32_t *picture, size_t picture_length) {
+    if (!is_state(s)) return not_written(PM_NO_STATE);
+    return plain_sure_write(s, target, offset, enables, word, memory, memory_length, picture, picture_length);
+}
+
+/* ---- a list ---- */
+
+uint32_t plain_run(struct pm_state *s, const uint32_t *list, size_t list_length, uint32_t *answers, size_t answers_length, uint8_t *memory,
+    size_t memory_length, uint32_t *picture, size_t picture_length) {
+    size_t n = list_length / PLAIN_LIST_WORDS;
+    if (list_length % PLAIN_LIST_WORDS || answers_length != PLAIN_ANSWER_WORDS * n) return 2;
+    uint32_t *statuses = answers, *words = statuses + n, *knowns = words + n, *changes = knowns + n;
+    for (size_t i = 0; i < n; i++) {
+        const uint32_t *a = list + PLAIN_LIST_WORDS * i;
+        if (a[2]) {
+            struct pm_wrote r = plain_sure_write(s, a[0], a[1], a[3], a[4], memory, memory_length, picture, picture_length);
+            statuses[i] = r.status;
+            words[i] = 0;
+            knowns[i] = 0;
+            changes[i] = r.changed;
+        } else {
+            struct pm_reply r = plain_sure_read(s, a[0], a[1], a[3], memory, memory_length, picture, picture_length);
+            statuses[i] = r.status;
+            words[i] = r.word;
+            knowns[i] = r.known;
+            changes[i] = 0;
+        }
+    }
+    return 0;
+}
+
 /* ---- an opening ---- */
 
+/* the two bytes behind the last field are left */
 static void reset(struct pm_state *s, uint32_t width, uint32_t height, uint32_t fitted) {
-    memset(s, 0, sizeof *s);
     s->width = width;
     s->height = height;
     s->fitted = fitted;
+    s->once = 0;
     memcpy(s->values, row_reset, sizeof s->values);
     memcpy(s->knowns, row_known, sizeof s->knowns);
+    memset(s->palette, 0, sizeof s->palette);
+    memset(&s->dac, 0, sizeof s->dac);
 }
 
 uint32_t plain_open(struct pm_state *s, uint32_t width, uint32_t height, uint8_t *memory, size_t memory_length, uint32_t *picture, size_t picture_length) {

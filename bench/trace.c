@@ -67,7 +67,7 @@ int main(int argc, char **argv) {
             puts("bad");
             continue;
         }
-        struct plain_answer r = ask_proved(&p, &a), t = ask_plain(&q, &a);
+        struct answer r = ask_proved(&p, &a), t = ask_plain(&q, &a);
         printf("%u %08x %08x %u\n", (unsigned)r.status, (unsigned)r.word, (unsigned)r.known, (unsigned)r.changed);
         if (!same_answers(&r, &t) || !same_states(&p.state, &q.state) || !same_buffers(&p, &q)) {
             puts("trace: the plain model differs");

@@ -13,6 +13,11 @@ struct access {
     uint32_t enables, word; /* a read and a look have no word */
 };
 
+/* of any access: a read and a look change no dot, a write sees no word */
+struct answer {
+    uint32_t status, word, known, changed;
+};
+
 struct world {
     struct pm_state state;
     uint8_t *memory;
@@ -23,54 +28,43 @@ struct world {
 /* the state's bytes but the last two, which mean nothing */
 #define STATE_BYTES (offsetof(struct pm_state, dac) + sizeof(struct pm_dac))
 
+static inline struct answer of_reply(struct pm_reply r) {
+    struct answer a = { r.status, r.word, r.known, 0 };
+    return a;
+}
+
+static inline struct answer of_wrote(struct pm_wrote r) {
+    struct answer a = { r.status, 0, 0, r.changed };
+    return a;
+}
+
 static inline uint32_t open_proved(struct world *w, uint32_t width, uint32_t height) {
-    struct pm_opened r = pm_open(width, height, w->memory, w->memory_length, w->picture, w->picture_length);
-    w->state = r.state;
-    return r.status;
+    return pm_open(&w->state, width, height, w->memory, w->memory_length, w->picture, w->picture_length);
 }
 
 static inline uint32_t open_plain(struct world *w, uint32_t width, uint32_t height) {
     return plain_open(&w->state, width, height, w->memory, w->memory_length, w->picture, w->picture_length);
 }
 
-static inline struct plain_answer read_proved(struct world *w, const struct access *a) {
-    struct pm_answer r = pm_read(w->state, a->target, a->offset, a->enables, w->memory, w->memory_length, w->picture, w->picture_length);
-    struct plain_answer n = { r.status, r.word, r.known, r.changed };
-    w->state = r.state;
-    return n;
-}
-
-static inline struct plain_answer write_proved(struct world *w, const struct access *a) {
-    struct pm_answer r = pm_write(w->state, a->target, a->offset, a->enables, a->word, w->memory, w->memory_length, w->picture, w->picture_length);
-    struct plain_answer n = { r.status, r.word, r.known, r.changed };
-    w->state = r.state;
-    return n;
-}
-
-static inline struct plain_answer look_proved(const struct world *w, const struct access *a) {
-    struct pm_looked r = pm_look(w->state, a->target, a->offset, a->enables, w->memory, w->memory_length, w->picture, w->picture_length);
-    struct plain_answer n = { r.status, r.word, r.known, r.changed };
-    return n;
-}
-
-static inline struct plain_answer ask_proved(struct world *w, const struct access *a) {
-    switch (a->kind) {
-    case WRITE: return write_proved(w, a);
-    case LOOK: return look_proved(w, a);
-    default: return read_proved(w, a);
-    }
-}
-
-static inline struct plain_answer ask_plain(struct world *w, const struct access *a) {
+static inline struct answer ask_proved(struct world *w, const struct access *a) {
     switch (a->kind) {
     case WRITE:
-        return plain_write(&w->state, a->target, a->offset, a->enables, a->word, w->memory, w->memory_length, w->picture, w->picture_length);
-    case LOOK: return plain_look(&w->state, a->target, a->offset, a->enables, w->memory, w->memory_length, w->picture_length);
-    default: return plain_read(&w->state, a->target, a->offset, a->enables, w->memory, w->memory_length, w->picture_length);
+        return of_wrote(pm_write(&w->state, a->target, a->offset, a->enables, a->word, w->memory, w->memory_length, w->picture, w->picture_length));
+    case LOOK: return of_reply(pm_look(&w->state, a->target, a->offset, a->enables, w->memory, w->memory_length, w->picture, w->picture_length));
+    default: return of_reply(pm_read(&w->state, a->target, a->offset, a->enables, w->memory, w->memory_length, w->picture, w->picture_length));
     }
 }
 
-static inline int same_answers(const struct plain_answer *a, const struct plain_answer *b) {
+static inline struct answer ask_plain(struct world *w, const struct access *a) {
+    switch (a->kind) {
+    case WRITE:
+        return of_wrote(plain_write(&w->state, a->target, a->offset, a->enables, a->word, w->memory, w->memory_length, w->picture, w->picture_length));
+    case LOOK: return of_reply(plain_look(&w->state, a->target, a->offset, a->enables, w->memory, w->memory_length, w->picture, w->picture_length));
+    default: return of_reply(plain_read(&w->state, a->target, a->offset, a->enables, w->memory, w->memory_length, w->picture, w->picture_length));
+    }
+}
+
+static inline int same_answers(const struct answer *a, const struct answer *b) {
     return a->status == b->status && a->word == b->word && a->known == b->known && a->changed == b->changed;
 }
 

@@ -15,26 +15,15 @@ static uint8_t memory[8 * STRIDE * HEIGHT];
 static uint32_t picture[DOTS];
 static struct pm_state state;
 
-static const char *const meanings[] = {
-    "done", "not a state", "a lent buffer has the wrong length", "no such target, or enables above 15", "the offset is no multiple of four",
-    "nothing is there", "the register has no such direction", "the aperture's mode is not served", "the panel is out of range", "the memory is out of range"
-};
-
-/* The three ways into the chip, with all lanes. Of a write and of a read the new state is taken from the answer .. */
-static struct pm_answer write_word(uint32_t target, uint32_t offset, uint32_t word) {
-    struct pm_answer r = pm_write(state, target, offset, 15, word, memory, sizeof memory, picture, DOTS);
-    state = r.state;
-    return r;
+/* The three ways into the chip, with all lanes. A write and a read alter the state in place .. */
+static struct pm_wrote write_word(uint32_t target, uint32_t offset, uint32_t word) {
+    return pm_write(&state, target, offset, 15, word, memory, sizeof memory, picture, DOTS);
 }
 
-static struct pm_answer read_word(uint32_t target, uint32_t offset) {
-    struct pm_answer r = pm_read(state, target, offset, 15, memory, sizeof memory, picture, DOTS);
-    state = r.state;
-    return r;
-}
+static struct pm_reply read_word(uint32_t target, uint32_t offset) { return pm_read(&state, target, offset, 15, memory, sizeof memory, picture, DOTS); }
 
-/* .. and a look has none. */
-static struct pm_looked look_at(uint32_t target, uint32_t offset) { return pm_look(state, target, offset, 15, memory, sizeof memory, picture, DOTS); }
+/* .. and a look does not. */
+static struct pm_reply look_at(uint32_t target, uint32_t offset) { return pm_look(&state, target, offset, 15, memory, sizeof memory, picture, DOTS); }
 
 /* An indirect register of the RAMDAC: its index goes to RDPaletteWriteAddress (4000h), its byte to RDIndexedData (4050h). */
 static void write_index(uint32_t index, uint32_t byte) {
@@ -61,7 +50,7 @@ static void print_entry(const char *name, uint32_t entry) {
     printf("entry %u, %s:", (unsigned)entry, name);
     write_word(PM_REGION_0, 0x4018, entry); /* RDPaletteReadAddress */
     for (int i = 0; i < 3; i++) {
-        struct pm_answer r = read_word(PM_REGION_0, 0x4008);
+        struct pm_reply r = read_word(PM_REGION_0, 0x4008);
         printf(" %s ", components[i]);
         print_bits(r.word, r.known);
     }
@@ -73,9 +62,9 @@ static void print_watched(const char *name, uint32_t entry) {
     printf("entry %u, %s, looked at and read:", (unsigned)entry, name);
     write_word(PM_REGION_0, 0x4018, entry);
     for (int i = 0; i < 3; i++) {
-        struct pm_looked shown = { 0 };
-        for (int k = 0; k < 3; k++) shown = look_at(PM_REGION_0, 0x4008);
-        struct pm_answer r = read_word(PM_REGION_0, 0x4008);
+        struct pm_reply shown = look_at(PM_REGION_0, 0x4008);
+        for (int k = 1; k < 3; k++) shown = look_at(PM_REGION_0, 0x4008);
+        struct pm_reply r = read_word(PM_REGION_0, 0x4008);
         printf(" %s ", components[i]);
         print_bits(shown.word, shown.known);
         putchar(' ');
@@ -85,12 +74,12 @@ static void print_watched(const char *name, uint32_t entry) {
 }
 
 static void print_read(const char *name, uint32_t target, uint32_t offset) {
-    struct pm_answer r = read_word(target, offset);
+    struct pm_reply r = read_word(target, offset);
     printf("%s: ", name);
     if (r.status == PM_DONE)
         printf("word %08x, known %08x\n", (unsigned)r.word, (unsigned)r.known);
     else
-        printf("refused as %u, %s\n", (unsigned)r.status, meanings[r.status]);
+        printf("refused as %u, %s\n", (unsigned)r.status, pm_status_text(r.status));
 }
 
 static void print_picture(const char *title) {
@@ -122,10 +111,13 @@ static void print_picture(const char *title) {
 int main(void) {
     static const uint32_t colours[8] = { 0xFFFFFF, 0xFFFF00, 0x00FFFF, 0x00FF00, 0xFF00FF, 0xFF0000, 0x0000FF, 0x000000 };
 
-    struct pm_opened o = pm_open(WIDTH, HEIGHT, memory, sizeof memory, picture, DOTS);
-    printf("opening %u by %u with %u bytes: %u, %s\n", WIDTH, HEIGHT, (unsigned)sizeof memory, (unsigned)o.status, meanings[o.status]);
-    if (o.status != PM_DONE) return 1;
-    state = o.state;
+    if (pm_abi() != PM_ABI || pm_state_size() != PM_STATE_SIZE) {
+        puts("the library is of another edition than the header");
+        return 1;
+    }
+    uint32_t status = pm_open(&state, WIDTH, HEIGHT, memory, sizeof memory, picture, DOTS);
+    printf("opening %u by %u with %u bytes: %u, %s\n", WIDTH, HEIGHT, (unsigned)sizeof memory, (unsigned)status, pm_status_text(status));
+    if (status != PM_DONE) return 1;
 
     /* A register that nobody has set is not zero: it is unknown. */
     print_read("BootAddress (1080h)", PM_REGION_0, 0x1080);

@@ -1,5 +1,6 @@
-/* An emulator's save code: the chip's state is written to a file with a version, read back, and gone on with. Where a damaged file holds no state, the model says so: refusal 1.
- * A state is plain numbers. The palette is 256 words, each the word of the entry's dots (01RRGGBBh) or 0, so the struct is saved as it stands, and memory and picture after it. */
+/* An emulator's save code: the chip's state is written to a file with a version, read back, and gone on with. Where a damaged file holds no state, the
+ * model says so: refusal 1. A state is plain numbers. The palette is 256 words, each the word of the entry's dots (01RRGGBBh) or 0, so the struct is saved
+ * as it stands, and memory and picture after it. */
 #include "reefstencil.h"
 #include <stdio.h>
 #include <string.h>
@@ -18,7 +19,8 @@ struct chip {
 
 /* ---- the file ---- */
 
-/* 1 stands for states of the layout before, with the palette in four columns, and 2 for words. Both structs have the same size, so only the number tells them apart. */
+/* 1 stands for states of the layout before, with the palette in four columns, and 2 for words. Both structs have the same size, so only the number tells
+ * them apart. */
 enum { VERSION_COLUMNS = 1, VERSION_WORDS = 2 };
 
 struct heading {
@@ -29,7 +31,7 @@ struct heading {
 static const char name[8] = "RFSTATE";
 
 static struct heading heading_of(uint32_t version) {
-    struct heading h = { { 0 }, version, sizeof(struct pm_state), BYTES, 4 * DOTS };
+    struct heading h = { { 0 }, version, PM_STATE_SIZE, BYTES, 4 * DOTS };
     memcpy(h.name, name, sizeof name);
     return h;
 }
@@ -58,7 +60,9 @@ struct columns {
     uint8_t red[PM_ENTRIES], green[PM_ENTRIES], blue[PM_ENTRIES], stored[PM_ENTRIES];
 };
 
+#ifndef __cplusplus
 _Static_assert(sizeof(struct columns) == sizeof(struct pm_state), "a state of either layout fills the same room");
+#endif
 
 /* Entry by entry, and nothing is lost either way: what was no state is none afterwards. */
 static struct pm_state from_columns(const struct columns *o) {
@@ -116,7 +120,7 @@ static const char *load(const char *path, struct chip *into) {
         c.state = from_columns(&o);
     }
     /* a look alters nothing, and with no lane enabled it shows nothing: it is there for its status. 1080h is BootAddress, which is always there */
-    uint32_t status = pm_look(c.state, PM_REGION_0, 0x1080, 0, c.memory, sizeof c.memory, c.picture, DOTS).status;
+    uint32_t status = pm_look(&c.state, PM_REGION_0, 0x1080, 0, c.memory, sizeof c.memory, c.picture, DOTS).status;
     if (status == PM_NO_STATE) return "refused as 1: what it holds is not a state, so the file is damaged";
     if (status == PM_WRONG_LENGTH) return "refused as 2: its panel or memory length does not fit the saved memory and picture";
     *into = c;
@@ -125,10 +129,8 @@ static const char *load(const char *path, struct chip *into) {
 
 /* ---- a chip that is saved in the middle of a palette load ---- */
 
-static struct pm_answer write_word(struct chip *c, uint32_t target, uint32_t offset, uint32_t word) {
-    struct pm_answer r = pm_write(c->state, target, offset, 15, word, c->memory, sizeof c->memory, c->picture, DOTS);
-    c->state = r.state;
-    return r;
+static struct pm_wrote write_word(struct chip *c, uint32_t target, uint32_t offset, uint32_t word) {
+    return pm_write(&c->state, target, offset, 15, word, c->memory, sizeof c->memory, c->picture, DOTS);
 }
 
 static void write_index(struct chip *c, uint32_t index, uint32_t byte) {
@@ -142,9 +144,7 @@ static void write_entry(struct chip *c, uint32_t entry, uint32_t rgb) {
 }
 
 static int start(struct chip *c) {
-    struct pm_opened o = pm_open(WIDTH, HEIGHT, c->memory, sizeof c->memory, c->picture, DOTS);
-    c->state = o.state;
-    if (o.status != PM_DONE) return 0;
+    if (pm_open(&c->state, WIDTH, HEIGHT, c->memory, sizeof c->memory, c->picture, DOTS) != PM_DONE) return 0;
     write_index(c, 0x18, 0x10); /* RDColorMode: 8-bit indexed, GUI */
     write_index(c, 0x1E, 0x02); /* RDMiscControl: palette components of eight bits */
     write_word(c, PM_REGION_0, 0x3000, 0);
@@ -208,7 +208,7 @@ static int go_on(const char *path, struct chip *c) {
         return 0;
     }
     printf("loaded: %s\n", same(c, &d) ? "the same state, memory and picture" : "not the same");
-    struct pm_answer r = write_word(c, PM_REGION_0, 0x4008, 0x33), s = write_word(&d, PM_REGION_0, 0x4008, 0x33);
+    struct pm_wrote r = write_word(c, PM_REGION_0, 0x4008, 0x33), s = write_word(&d, PM_REGION_0, 0x4008, 0x33);
     printf("blue of entry 2 is written: %u dots changed, and %u in the loaded chip\n", (unsigned)r.changed, (unsigned)s.changed);
     printf("entry 2 is %08x\n", (unsigned)d.state.palette[2]);
     return same(c, &d);

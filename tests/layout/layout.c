@@ -8,22 +8,18 @@
 #include <string.h>
 
 /* crates/layout, which is proved to make and to take apart each struct by its fields' names */
-struct pm_looked made_looked(uint32_t status, uint32_t word, uint32_t known, uint32_t changed);
+struct pm_reply made_reply(uint32_t status, uint32_t word, uint32_t known);
+struct pm_wrote made_wrote(uint32_t status, uint32_t changed);
 struct pm_state made_state(uint32_t width, uint32_t height, uint32_t fitted, uint32_t once, const uint32_t *values, const uint32_t *knowns,
     const uint32_t *palette, uint8_t address, uint8_t known, uint8_t component, uint8_t staged, uint8_t staged_red,
     uint8_t staged_green);
-struct pm_answer made_answer(uint32_t status, uint32_t word, uint32_t known, uint32_t changed, struct pm_state s);
-struct pm_opened made_opened(uint32_t status, struct pm_state s);
-void parts_of_looked(struct pm_looked l, uint32_t *out);
+void parts_of_reply(struct pm_reply r, uint32_t *out);
+void parts_of_wrote(struct pm_wrote w, uint32_t *out);
 void sizes_of_state(struct pm_state s, uint32_t *out);
 void values_of_state(struct pm_state s, uint32_t *out);
 void knowns_of_state(struct pm_state s, uint32_t *out);
 void palette_of_state(struct pm_state s, uint32_t *out);
 void dac_of_state(struct pm_state s, uint8_t *out);
-void parts_of_answer(struct pm_answer a, uint32_t *out);
-struct pm_state state_of_answer(struct pm_answer a);
-uint32_t status_of_opened(struct pm_opened o);
-struct pm_state state_of_opened(struct pm_opened o);
 
 static unsigned place, round_number;
 static unsigned tested, failed;
@@ -128,72 +124,44 @@ static void library_reads_state(struct pm_state s, unsigned from) {
     same_bytes("library: dac", bytes, 6);
 }
 
-/* ---- the small structs: their words first, then the state ---- */
+/* ---- the answers ---- */
 
-static void test_looked(void) {
-    uint32_t w[4];
-    place = 1;
-    struct pm_looked c;
-    c.status = next_word();
-    c.word = next_word();
-    c.known = next_word();
-    c.changed = next_word();
-    parts_of_looked(c, w);
-    place = 1;
-    same_words("library: looked", w, 4);
-
-    place = 1;
-    fill_words(w, 4);
-    struct pm_looked r = made_looked(w[0], w[1], w[2], w[3]);
-    place = 1;
-    same("looked.status", 0, r.status, next_word());
-    same("looked.word", 0, r.word, next_word());
-    same("looked.known", 0, r.known, next_word());
-    same("looked.changed", 0, r.changed, next_word());
-}
-
-static void test_answer(void) {
-    uint32_t w[4];
-    struct pm_answer c;
-    c.state = written_state(5);
+static void test_reply(void) {
+    uint32_t w[3];
+    struct pm_reply c;
     place = 1;
     c.status = next_word();
     c.word = next_word();
     c.known = next_word();
-    c.changed = next_word();
-    parts_of_answer(c, w);
+    parts_of_reply(c, w);
     place = 1;
-    same_words("library: answer", w, 4);
-    struct pm_state s = state_of_answer(c);
-    read_state(&s, 5);
+    same_words("library: reply", w, 3);
 
     place = 1;
-    fill_words(w, 4);
-    struct pm_answer r = made_answer(w[0], w[1], w[2], w[3], library_state(5));
+    fill_words(w, 3);
+    struct pm_reply r = made_reply(w[0], w[1], w[2]);
     place = 1;
-    same("answer.status", 0, r.status, next_word());
-    same("answer.word", 0, r.word, next_word());
-    same("answer.known", 0, r.known, next_word());
-    same("answer.changed", 0, r.changed, next_word());
-    read_state(&r.state, 5);
+    same("reply.status", 0, r.status, next_word());
+    same("reply.word", 0, r.word, next_word());
+    same("reply.known", 0, r.known, next_word());
 }
 
-static void test_opened(void) {
-    struct pm_opened c;
-    c.state = written_state(2);
+static void test_wrote(void) {
+    uint32_t w[2];
+    struct pm_wrote c;
     place = 1;
     c.status = next_word();
-    uint32_t status = status_of_opened(c);
+    c.changed = next_word();
+    parts_of_wrote(c, w);
     place = 1;
-    same("library: opened.status", 0, status, next_word());
-    struct pm_state s = state_of_opened(c);
-    read_state(&s, 2);
+    same_words("library: wrote", w, 2);
 
     place = 1;
-    struct pm_opened r = made_opened(next_word(), library_state(2));
+    fill_words(w, 2);
+    struct pm_wrote r = made_wrote(w[0], w[1]);
     place = 1;
-    same("opened.status", 0, r.status, next_word());
-    read_state(&r.state, 2);
+    same("wrote.status", 0, r.status, next_word());
+    same("wrote.changed", 0, r.changed, next_word());
 }
 
 int main(void) {
@@ -201,9 +169,8 @@ int main(void) {
         library_reads_state(written_state(1), 1);
         struct pm_state s = library_state(1);
         read_state(&s, 1);
-        test_looked();
-        test_answer();
-        test_opened();
+        test_reply();
+        test_wrote();
     }
     printf("layout: %u numbers tested, %u wrong\n", tested, failed);
     return failed != 0;

@@ -11,12 +11,14 @@ use Rattle.chip.specs.declared.Opened.{Opened}
 use Rattle.chip.specs.declared.Kind.{Kind}
 use Rattle.chip.specs.declared.Kind.the-variants.{Read, Write, Look}
 use Rattle.chip.specs.Access.{reads, writes, looks}
-use Rattle.chip.specs.Step.{Outcome, Opening, Gives, Opens, shownAt, openOf}
+use Rattle.chip.specs.Parts as parts
+use Rattle.chip.specs.Parts.{stateOf, replied, wrote}
+use Rattle.chip.specs.Step.{Outcome, Opening, Gives, Opens, openOf}
 use Rattle.chip.specs.Trace.{World, opened, step, after, run}
 use Rattle.chip.proofs.Operations.{is-no-write, read-writes-not, look-is, look-writes-not}
 use Rattle.promises.specs.Looks.{answersOf}
 use Rattle.promises.proofs.Promise9Looks.{word-unasked}
-use Rattle.calls.specs.Calls.{ReadCalled, WriteCalled, LookCalled, Called, of-read, of-write, of-look, OpenCalled, Calls, none, more}
+use Rattle.calls.specs.Calls.{ReadCalled, WriteCalled, LookCalled, LentReadCalled, LentWriteCalled, LentLookCalled, Called, of-read, of-write, of-look, of-lent-read, of-lent-write, of-lent-look, ValueOpenCalled, LentOpenCalled, OpenCalled, of-open, of-lent-open, Calls, none, more}
 
 worldOf : State → List ℕ → List ℕ → World
 worldOf s m p = record { state = s; memory = m; picture = p }
@@ -102,10 +104,10 @@ module _ (x : World) (a : Access) (r : Answer) (y : World) (c : LookCalled x a r
       let w : handed-look ≡ x = same-world _ _ _ _ _ _ (c .state) (c .memory) (c .picture) in
       let o : step handed-look (looks (c .args .1 .0) (c .args .1 .1 .0) (c .args .1 .1 .1 .0)) ≡ step x a =
       same-three (λ (z : World) (t o e : ℕ). step z (looks t o e)) _ _ _ _ _ _ _ _ w (c .target) (c .offset) (c .enables) ∙ look-of x a (c .kind) in
-      let g : Gives (step x a) (shownAt (c .args .0) (c .result)) (now (c .args .1 .1 .1 .1 .0)) (now (c .args .1 .1 .1 .1 .1 .0)) =
-      subst (λ (q : Outcome). Gives q (shownAt (c .args .0) (c .result)) (now (c .args .1 .1 .1 .1 .0)) (now (c .args .1 .1 .1 .1 .1 .0))) o (c .post) in
+      let g : Gives (step x a) (replied (c .args .0) (c .result)) (now (c .args .1 .1 .1 .1 .0)) (now (c .args .1 .1 .1 .1 .1 .0)) =
+      subst (λ (q : Outcome). Gives q (replied (c .args .0) (c .result)) (now (c .args .1 .1 .1 .1 .0)) (now (c .args .1 .1 .1 .1 .1 .0))) o (c .post) in
       record {
-        answer = c .answer ∙ ap (λ (s : State). shownAt s (c .result)) (sym (c .state)) ∙ g .answer;
+        answer = c .answer ∙ ap (λ (s : State). replied s (c .result)) (sym (c .state)) ∙ g .answer;
         memory = sym (c .memory) ∙ g .memory;
         picture = sym (c .picture) ∙ g .picture;
       }
@@ -121,10 +123,102 @@ module _ (x : World) (a : Access) (r : Answer) (y : World) (c : LookCalled x a r
             (sym (ap (λ (q : Answer). q .state) (c .answer)) ∙ ap (λ (q : Answer). q .state) (look-gives .answer)) (look-gives .memory) (look-gives .picture);
       }
 
+-- ---- in place: the same, with the state that the parts are put together
+
+module _ (x : World) (a : Access) (r : Answer) (y : World) (c : LentReadCalled x a r y) where
+  lent-read : World
+  lent-read = worldOf (stateOf (c .args .0) (c .args .1 .0) (c .args .1 .1 .0) (c .args .1 .1 .1 .0) (now (c .args .1 .1 .1 .1 .0)) (now (c .args .1 .1 .1 .1 .1 .0)) (now (c .args .1 .1 .1 .1 .1 .1 .0)) (now (c .args .1 .1 .1 .1 .1 .1 .1 .0))) (now (c .args .1 .1 .1 .1 .1 .1 .1 .1 .1 .1 .1 .0)) (now (c .args .1 .1 .1 .1 .1 .1 .1 .1 .1 .1 .1 .1 .0))
+
+  lent-read-gives : Gives (step x a) r (x .memory) (x .picture)
+  unfolding worldOf lent-read
+  lent-read-gives =
+      let w : lent-read ≡ x = same-world _ _ _ _ _ _ (c .state) (c .memory) (c .picture) in
+      let o : step lent-read (reads (c .args .1 .1 .1 .1 .1 .1 .1 .1 .0) (c .args .1 .1 .1 .1 .1 .1 .1 .1 .1 .0) (c .args .1 .1 .1 .1 .1 .1 .1 .1 .1 .1 .0)) ≡ step x a =
+      same-three (λ (z : World) (t o e : ℕ). step z (reads t o e)) _ _ _ _ _ _ _ _ w (c .target) (c .offset) (c .enables) ∙ read-of x a (c .kind) in
+      let g : Gives (step x a) (replied (stateOf (c .args .0) (c .args .1 .0) (c .args .1 .1 .0) (c .args .1 .1 .1 .0) (now (c .exit .1 .1 .1 .1 .0)) (now (c .args .1 .1 .1 .1 .1 .0)) (now (c .args .1 .1 .1 .1 .1 .1 .0)) (now (c .exit .1 .1 .1 .1 .1 .1 .1 .0))) (c .result)) (now (c .args .1 .1 .1 .1 .1 .1 .1 .1 .1 .1 .1 .0)) (now (c .args .1 .1 .1 .1 .1 .1 .1 .1 .1 .1 .1 .1 .0)) =
+      subst (λ (q : Outcome). Gives q (replied (stateOf (c .args .0) (c .args .1 .0) (c .args .1 .1 .0) (c .args .1 .1 .1 .0) (now (c .exit .1 .1 .1 .1 .0)) (now (c .args .1 .1 .1 .1 .1 .0)) (now (c .args .1 .1 .1 .1 .1 .1 .0)) (now (c .exit .1 .1 .1 .1 .1 .1 .1 .0))) (c .result)) (now (c .args .1 .1 .1 .1 .1 .1 .1 .1 .1 .1 .1 .0)) (now (c .args .1 .1 .1 .1 .1 .1 .1 .1 .1 .1 .1 .1 .0))) o (c .post) in
+      record {
+        answer = c .answer ∙ ap (λ (s : State). replied s (c .result)) (c .state-left) ∙ g .answer;
+        memory = sym (c .memory) ∙ g .memory;
+        picture = sym (c .picture) ∙ g .picture;
+      }
+
+  lent-read-agrees : Agrees x a r y
+  unfolding worldOf
+  lent-read-agrees =
+      record {
+        answers = lent-read-gives .answer;
+        leaves =
+            same-world (y .state) (step x a .answer .state) (y .memory) (step x a .memory) (y .picture) (step x a .picture)
+            (sym (ap (λ (q : Answer). q .state) (c .answer)) ∙ ap (λ (q : Answer). q .state) (lent-read-gives .answer)) (c .memory-left ∙ lent-read-gives .memory)
+            (c .picture-left ∙ lent-read-gives .picture);
+      }
+
+module _ (x : World) (a : Access) (r : Answer) (y : World) (c : LentWriteCalled x a r y) where
+  lent-write : World
+  lent-write = worldOf (stateOf (c .args .0) (c .args .1 .0) (c .args .1 .1 .0) (now (c .args .1 .1 .1 .0)) (now (c .args .1 .1 .1 .1 .0)) (now (c .args .1 .1 .1 .1 .1 .0)) (now (c .args .1 .1 .1 .1 .1 .1 .0)) (now (c .args .1 .1 .1 .1 .1 .1 .1 .0))) (now (c .args .1 .1 .1 .1 .1 .1 .1 .1 .1 .1 .1 .1 .0)) (now (c .args .1 .1 .1 .1 .1 .1 .1 .1 .1 .1 .1 .1 .1 .0))
+
+  lent-write-gives : Gives (step x a) r (y .memory) (y .picture)
+  unfolding worldOf lent-write
+  lent-write-gives =
+      let w : lent-write ≡ x = same-world _ _ _ _ _ _ (c .state) (c .memory) (c .picture) in
+      let o : step lent-write (writes (c .args .1 .1 .1 .1 .1 .1 .1 .1 .0) (c .args .1 .1 .1 .1 .1 .1 .1 .1 .1 .0) (c .args .1 .1 .1 .1 .1 .1 .1 .1 .1 .1 .0) (c .args .1 .1 .1 .1 .1 .1 .1 .1 .1 .1 .1 .0)) ≡ step x a =
+      same-three (λ (z : World) (t o e : ℕ). step z (writes t o e (c .args .1 .1 .1 .1 .1 .1 .1 .1 .1 .1 .1 .0))) _ _ _ _ _ _ _ _ w (c .target) (c .offset) (c .enables)
+      ∙ ap (λ (v : ℕ). step x (writes (a .target) (a .offset) (a .enables) v)) (c .word) ∙ ap (step x) (write-of a (c .kind)) in
+      let g : Gives (step x a) (wrote (stateOf (c .args .0) (c .args .1 .0) (c .args .1 .1 .0) (now (c .exit .1 .1 .1 .0)) (now (c .exit .1 .1 .1 .1 .0)) (now (c .exit .1 .1 .1 .1 .1 .0)) (now (c .exit .1 .1 .1 .1 .1 .1 .0)) (now (c .exit .1 .1 .1 .1 .1 .1 .1 .0))) (c .result)) (now (c .exit .1 .1 .1 .1 .1 .1 .1 .1 .1 .1 .1 .1 .0)) (now (c .exit .1 .1 .1 .1 .1 .1 .1 .1 .1 .1 .1 .1 .1 .0)) =
+      subst (λ (q : Outcome). Gives q (wrote (stateOf (c .args .0) (c .args .1 .0) (c .args .1 .1 .0) (now (c .exit .1 .1 .1 .0)) (now (c .exit .1 .1 .1 .1 .0)) (now (c .exit .1 .1 .1 .1 .1 .0)) (now (c .exit .1 .1 .1 .1 .1 .1 .0)) (now (c .exit .1 .1 .1 .1 .1 .1 .1 .0))) (c .result)) (now (c .exit .1 .1 .1 .1 .1 .1 .1 .1 .1 .1 .1 .1 .0)) (now (c .exit .1 .1 .1 .1 .1 .1 .1 .1 .1 .1 .1 .1 .1 .0))) o (c .post) in
+      record {
+        answer = c .answer ∙ ap (λ (s : State). wrote s (c .result)) (c .state-left) ∙ g .answer;
+        memory = c .memory-left ∙ g .memory;
+        picture = c .picture-left ∙ g .picture;
+      }
+
+  lent-write-agrees : Agrees x a r y
+  unfolding worldOf
+  lent-write-agrees =
+      record {
+        answers = lent-write-gives .answer;
+        leaves =
+            same-world (y .state) (step x a .answer .state) (y .memory) (step x a .memory) (y .picture) (step x a .picture)
+            (sym (ap (λ (q : Answer). q .state) (c .answer)) ∙ ap (λ (q : Answer). q .state) (lent-write-gives .answer)) (lent-write-gives .memory) (lent-write-gives .picture);
+      }
+
+module _ (x : World) (a : Access) (r : Answer) (y : World) (c : LentLookCalled x a r y) where
+  lent-look : World
+  lent-look = worldOf (stateOf (c .args .0) (c .args .1 .0) (c .args .1 .1 .0) (c .args .1 .1 .1 .0) (now (c .args .1 .1 .1 .1 .0)) (now (c .args .1 .1 .1 .1 .1 .0)) (now (c .args .1 .1 .1 .1 .1 .1 .0)) (now (c .args .1 .1 .1 .1 .1 .1 .1 .0))) (now (c .args .1 .1 .1 .1 .1 .1 .1 .1 .1 .1 .1 .0)) (now (c .args .1 .1 .1 .1 .1 .1 .1 .1 .1 .1 .1 .1 .0))
+
+  lent-look-gives : Gives (step x a) r (x .memory) (x .picture)
+  unfolding worldOf lent-look
+  lent-look-gives =
+      let w : lent-look ≡ x = same-world _ _ _ _ _ _ (c .state) (c .memory) (c .picture) in
+      let o : step lent-look (looks (c .args .1 .1 .1 .1 .1 .1 .1 .1 .0) (c .args .1 .1 .1 .1 .1 .1 .1 .1 .1 .0) (c .args .1 .1 .1 .1 .1 .1 .1 .1 .1 .1 .0)) ≡ step x a =
+      same-three (λ (z : World) (t o e : ℕ). step z (looks t o e)) _ _ _ _ _ _ _ _ w (c .target) (c .offset) (c .enables) ∙ look-of x a (c .kind) in
+      let g : Gives (step x a) (replied (stateOf (c .args .0) (c .args .1 .0) (c .args .1 .1 .0) (c .args .1 .1 .1 .0) (now (c .args .1 .1 .1 .1 .0)) (now (c .args .1 .1 .1 .1 .1 .0)) (now (c .args .1 .1 .1 .1 .1 .1 .0)) (now (c .args .1 .1 .1 .1 .1 .1 .1 .0))) (c .result)) (now (c .args .1 .1 .1 .1 .1 .1 .1 .1 .1 .1 .1 .0)) (now (c .args .1 .1 .1 .1 .1 .1 .1 .1 .1 .1 .1 .1 .0)) =
+      subst (λ (q : Outcome). Gives q (replied (stateOf (c .args .0) (c .args .1 .0) (c .args .1 .1 .0) (c .args .1 .1 .1 .0) (now (c .args .1 .1 .1 .1 .0)) (now (c .args .1 .1 .1 .1 .1 .0)) (now (c .args .1 .1 .1 .1 .1 .1 .0)) (now (c .args .1 .1 .1 .1 .1 .1 .1 .0))) (c .result)) (now (c .args .1 .1 .1 .1 .1 .1 .1 .1 .1 .1 .1 .0)) (now (c .args .1 .1 .1 .1 .1 .1 .1 .1 .1 .1 .1 .1 .0))) o (c .post) in
+      record {
+        answer = c .answer ∙ ap (λ (s : State). replied s (c .result)) (sym (c .state)) ∙ g .answer;
+        memory = sym (c .memory) ∙ g .memory;
+        picture = sym (c .picture) ∙ g .picture;
+      }
+
+  lent-look-agrees : Agrees x a r y
+  unfolding worldOf
+  lent-look-agrees =
+      record {
+        answers = lent-look-gives .answer;
+        leaves =
+            c .left
+            ∙ same-world (x .state) (step x a .answer .state) (x .memory) (step x a .memory) (x .picture) (step x a .picture)
+            (sym (ap (λ (q : Answer). q .state) (c .answer)) ∙ ap (λ (q : Answer). q .state) (lent-look-gives .answer)) (lent-look-gives .memory) (lent-look-gives .picture);
+      }
+
 agrees : (x : World) (a : Access) (r : Answer) (y : World) → Called x a r y → Agrees x a r y
 agrees x a r y (of-read c) = read-agrees x a r y c
 agrees x a r y (of-write c) = write-agrees x a r y c
 agrees x a r y (of-look c) = look-agrees x a r y c
+agrees x a r y (of-lent-read c) = lent-read-agrees x a r y c
+agrees x a r y (of-lent-write c) = lent-write-agrees x a r y c
+agrees x a r y (of-lent-look c) = lent-look-agrees x a r y c
 
 pub call-answers : (x : World) (a : Access) (r : Answer) (y : World) → Called x a r y → r ≡ step x a .answer
 call-answers x a r y c = agrees x a r y c .answers
@@ -134,25 +228,43 @@ call-leaves x a r y c = agrees x a r y c .leaves
 
 -- ---- an opening, and a run
 
-module _ (w h : ℕ) (m p : List ℕ) (r : Opened) (y : World) (c : OpenCalled w h m p r y) where
-  opens : Opens (openOf w h m p) r (now (c .exit .1 .1 .0)) (now (c .exit .1 .1 .1 .0))
-  opens =
+module _ (w h : ℕ) (m p : List ℕ) (r : Opened) (y : World) (c : ValueOpenCalled w h m p r y) where
+  value-opens : Opens (openOf w h m p) r (y .memory) (y .picture)
+  value-opens =
       let o : openOf (c .args .0) (c .args .1 .0) (now (c .args .1 .1 .0)) (now (c .args .1 .1 .1 .0)) ≡ openOf w h m p =
       ap₂ (λ (u v : ℕ). openOf u v (now (c .args .1 .1 .0)) (now (c .args .1 .1 .1 .0))) (c .width) (c .height)
       ∙ ap₂ (λ (u v : List ℕ). openOf w h u v) (c .memory) (c .picture) in
-      subst (λ (q : Opened). Opens (openOf w h m p) q (now (c .exit .1 .1 .0)) (now (c .exit .1 .1 .1 .0))) (c .answer)
-      (subst (λ (q : Opening). Opens q (c .result) (now (c .exit .1 .1 .0)) (now (c .exit .1 .1 .1 .0))) o (c .post))
+      let g : Opens (openOf w h m p) (c .result) (now (c .exit .1 .1 .0)) (now (c .exit .1 .1 .1 .0)) =
+      subst (λ (q : Opening). Opens q (c .result) (now (c .exit .1 .1 .0)) (now (c .exit .1 .1 .1 .0))) o (c .post) in
+      record { answer = sym (c .answer) ∙ g .answer; memory = c .memory-left ∙ g .memory; picture = c .picture-left ∙ g .picture }
 
+module _ (w h : ℕ) (m p : List ℕ) (r : Opened) (y : World) (c : LentOpenCalled w h m p r y) where
+  lent-opens : Opens (openOf w h m p) r (y .memory) (y .picture)
+  lent-opens =
+      let o : openOf (c .args .1 .1 .1 .1 .1 .1 .1 .1 .0) (c .args .1 .1 .1 .1 .1 .1 .1 .1 .1 .0) (now (c .args .1 .1 .1 .1 .1 .1 .1 .1 .1 .1 .0)) (now (c .args .1 .1 .1 .1 .1 .1 .1 .1 .1 .1 .1 .0)) ≡ openOf w h m p =
+      ap₂ (λ (u v : ℕ). openOf u v (now (c .args .1 .1 .1 .1 .1 .1 .1 .1 .1 .1 .0)) (now (c .args .1 .1 .1 .1 .1 .1 .1 .1 .1 .1 .1 .0))) (c .width) (c .height) ∙ ap₂ (λ (u v : List ℕ). openOf w h u v) (c .memory) (c .picture) in
+      let s : State = stateOf (now (c .exit .0)) (now (c .exit .1 .0)) (now (c .exit .1 .1 .0)) (now (c .exit .1 .1 .1 .0)) (now (c .exit .1 .1 .1 .1 .0)) (now (c .exit .1 .1 .1 .1 .1 .0)) (now (c .exit .1 .1 .1 .1 .1 .1 .0)) (now (c .exit .1 .1 .1 .1 .1 .1 .1 .0)) in
+      let g : Opens (openOf w h m p) (parts.opened s (c .result)) (now (c .exit .1 .1 .1 .1 .1 .1 .1 .1 .1 .1 .0)) (now (c .exit .1 .1 .1 .1 .1 .1 .1 .1 .1 .1 .1 .0)) =
+      subst (λ (q : Opening). Opens q (parts.opened s (c .result)) (now (c .exit .1 .1 .1 .1 .1 .1 .1 .1 .1 .1 .0)) (now (c .exit .1 .1 .1 .1 .1 .1 .1 .1 .1 .1 .1 .0))) o (c .post) in
+      record { answer = c .answer ∙ ap (λ (z : State). parts.opened z (c .result)) (c .state-left) ∙ g .answer; memory = c .memory-left ∙ g .memory; picture = c .picture-left ∙ g .picture }
+
+opens : (w h : ℕ) (m p : List ℕ) (r : Opened) (y : World) → OpenCalled w h m p r y → Opens (openOf w h m p) r (y .memory) (y .picture)
+opens w h m p r y (of-open c) = value-opens w h m p r y c
+opens w h m p r y (of-lent-open c) = lent-opens w h m p r y c
+
+open-state : (w h : ℕ) (m p : List ℕ) (r : Opened) (y : World) → OpenCalled w h m p r y → y .state ≡ r .state
+open-state w h m p r y (of-open c) = c .state-left
+open-state w h m p r y (of-lent-open c) = sym (ap (λ (q : Opened). q .state) (c .answer))
+
+module _ (w h : ℕ) (m p : List ℕ) (r : Opened) (y : World) (c : OpenCalled w h m p r y) where
   pub open-answers : r ≡ openOf w h m p .answer
-  open-answers = opens .answer
+  open-answers = opens w h m p r y c .answer
 
   pub open-leaves : y ≡ opened w h m p
   unfolding worldOf
   open-leaves =
       same-world (y .state) (openOf w h m p .answer .state) (y .memory) (openOf w h m p .memory) (y .picture) (openOf w h m p .picture)
-      (c .state-left ∙ ap (λ (q : Opened). q .state) open-answers)
-      (c .memory-left ∙ opens .memory)
-      (c .picture-left ∙ opens .picture)
+      (open-state w h m p r y c ∙ ap (λ (q : Opened). q .state) open-answers) (opens w h m p r y c .memory) (opens w h m p r y c .picture)
 
 pub calls-leave : (x : World) (l : List Access) (rs : List Answer) (z : World) → Calls x l rs z → z ≡ run x l
 calls-leave x [] [] z (none y) = refl

@@ -50,7 +50,7 @@ fn answer(d: Dac, words: bool, a: Access, status: u32, shown: u32, known: u32, c
     }
 }
 
-fn do_read(s: State, words: bool, a: Access, memory: &[u8], picture: &[u32]) -> State {
+fn do_read<'a>(s: State, words: bool, a: Access, memory: &'a [u8], picture: &'a [u32]) -> State {
     let r = model::read::read(s, a.target, a.offset, a.enables, memory, picture);
     answer(s.dac, words, a, r.status, r.word, r.known, r.changed);
     r.state
@@ -62,9 +62,9 @@ fn do_write(s: State, words: bool, a: Access, memory: &mut [u8], picture: &mut [
     r.state
 }
 
-fn do_look(s: State, words: bool, a: Access, memory: &[u8], picture: &[u32]) {
+fn do_look<'a>(s: State, words: bool, a: Access, memory: &'a [u8], picture: &'a [u32]) {
     let r = model::look::look(s, a.target, a.offset, a.enables, memory, picture);
-    answer(s.dac, words, a, r.status, r.word, r.known, r.changed);
+    answer(s.dac, words, a, r.status, r.word, r.known, 0);
 }
 
 fn do_access(s: State, words: bool, a: Access, memory: &mut [u8], picture: &mut [u32]) -> State {

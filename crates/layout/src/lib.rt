@@ -2,25 +2,30 @@
 // names, and taken apart here into its parts, after C wrote it by its names.
 ghost use mathlib.Core.List.{[], _∷_};
 ghost use mathlib.Core.Path.{_≡_};
-use chip::Answer;
 use chip::Dac;
-use chip::Looked;
-use chip::Opened;
 use chip::ROWS;
+use chip::Reply;
 use chip::State;
+use chip::Wrote;
 
 // ---- made here, read by C
 
 #[no_mangle]
-pub extern "C" fn made_looked(status: u32, word: u32, known: u32, changed: u32) -> Looked
-    ensures { λ r. ⌜ r ≡ record { status = status; word = word; known = known; changed = changed } ⌝ }
+pub extern "C" fn made_reply(status: u32, word: u32, known: u32) -> Reply
+    ensures { λ r. ⌜ r ≡ record { status = status; word = word; known = known } ⌝ }
 {
-    Looked {
+    Reply {
         status,
         word,
         known,
-        changed,
     }
+}
+
+#[no_mangle]
+pub extern "C" fn made_wrote(status: u32, changed: u32) -> Wrote
+    ensures { λ r. ⌜ r ≡ record { status = status; changed = changed } ⌝ }
+{
+    Wrote { status, changed }
 }
 
 // The parts in the order of the struct: the RAMDAC's six numbers are address to staged_green.
@@ -65,33 +70,20 @@ pub extern "C" fn made_state<'a>(
     }
 }
 
-#[no_mangle]
-pub extern "C" fn made_answer(status: u32, word: u32, known: u32, changed: u32, s: State) -> Answer
-    ensures { λ r. ⌜ r ≡ record { status = status; word = word; known = known; changed = changed; state = s } ⌝ }
-{
-    Answer {
-        status,
-        word,
-        known,
-        changed,
-        state: s,
-    }
-}
-
-#[no_mangle]
-pub extern "C" fn made_opened(status: u32, s: State) -> Opened
-    ensures { λ r. ⌜ r ≡ record { status = status; state = s } ⌝ }
-{
-    Opened { status, state: s }
-}
-
 // ---- written by C, taken apart here
 
 #[no_mangle]
-pub extern "C" fn parts_of_looked(l: Looked, out: &mut [u32; 4])
-    ensures { λ r. ⌜ now (out .exit) ≡ l .status ∷ l .word ∷ l .known ∷ l .changed ∷ [] ⌝ }
+pub extern "C" fn parts_of_reply(p: Reply, out: &mut [u32; 3])
+    ensures { λ r. ⌜ now (out .exit) ≡ p .status ∷ p .word ∷ p .known ∷ [] ⌝ }
 {
-    *out = [l.status, l.word, l.known, l.changed];
+    *out = [p.status, p.word, p.known];
+}
+
+#[no_mangle]
+pub extern "C" fn parts_of_wrote(p: Wrote, out: &mut [u32; 2])
+    ensures { λ r. ⌜ now (out .exit) ≡ p .status ∷ p .changed ∷ [] ⌝ }
+{
+    *out = [p.status, p.changed];
 }
 
 #[no_mangle]
@@ -137,32 +129,4 @@ pub extern "C" fn dac_of_state(s: State, out: &mut [u8; 6])
         s.dac.red,
         s.dac.green,
     ];
-}
-
-#[no_mangle]
-pub extern "C" fn parts_of_answer(a: Answer, out: &mut [u32; 4])
-    ensures { λ r. ⌜ now (out .exit) ≡ a .status ∷ a .word ∷ a .known ∷ a .changed ∷ [] ⌝ }
-{
-    *out = [a.status, a.word, a.known, a.changed];
-}
-
-#[no_mangle]
-pub extern "C" fn state_of_answer(a: Answer) -> State
-    ensures { λ r. ⌜ r ≡ a .state ⌝ }
-{
-    a.state
-}
-
-#[no_mangle]
-pub extern "C" fn status_of_opened(o: Opened) -> u32
-    ensures { λ r. ⌜ r ≡ o .status ⌝ }
-{
-    o.status
-}
-
-#[no_mangle]
-pub extern "C" fn state_of_opened(o: Opened) -> State
-    ensures { λ r. ⌜ r ≡ o .state ⌝ }
-{
-    o.state
 }

@@ -1,8 +1,8 @@
 pub mod DoneLaws
+pub mod PlaceLaws
 pub mod QuietLaws
-pub mod SeenLaws
 pub mod TestLaws
-pub mod WriteLaws
 pub mod WindowLaws
 pub mod OpenLaws
+pub mod ValueLaws
 pub mod OneOutcome

@@ -5,6 +5,7 @@ use mathlib.Core.Bool.{Bool, true, false, _&&_}
 use mathlib.Core.List.{List}
 use mathlib.Core.Option.{Option, none, some}
 use mathlib.Core.Path.{_≡_, refl, sym, ap, _∙_}
+use borrow.Author.Tests.{ne-eqb}
 use lib.Dec.{eqb}
 use lib.ListN.{getD}
 use lib.Seq.{getD-set-other}
@@ -14,17 +15,23 @@ use Rattle.chip.specs.declared.State.{State}
 use Rattle.chip.specs.declared.Access.{Access}
 use Rattle.chip.specs.declared.Dac.{Dac}
 use Rattle.chip.specs.declared.Place.{Place}
-use Rattle.chip.specs.declared.Place.the-variants.{Register, Address, PaletteData, Window, Blank, Nowhere}
+use Rattle.chip.specs.declared.Place.the-variants.{Register, Address, PaletteData}
 use Rattle.chip.specs.Bank.{screenBase, screenStride, pixelMask, colorMode}
 use Rattle.chip.specs.Dac.{bothStaged, completedBy}
-use Rattle.chip.specs.Patch.{Store, Patch, nothingStored, valued, learned, painted, applied}
-use Rattle.chip.specs.Port.{rowPatch, aimPatch, paintPatch, pokePatch, portAt}
+use Rattle.chip.specs.Patch.{Store, Patch, valued, learned, painted, applied}
+use Rattle.chip.specs.Port.{rowPatch, aimPatch, paintPatch, portAt}
 use Rattle.chip.specs.Palette.{entryOf}
 use Rattle.chip.specs.View.{View, SameView}
 use Rattle.chip.specs.Picture.{viewWord, wordOf}
 use Rattle.chip.proofs.Views.{same-view}
 use Rattle.chip.proofs.Ports.{stepOnly, read-steps}
 use Rattle.model.specs.Parts.{rowShows, Quiet, QuietUnless}
+
+-- ---- the rows that the picture reads
+
+pub shows-last : (i : ℕ) → (i ≡ screenBase → ⊥) → (i ≡ screenStride → ⊥) → (i ≡ pixelMask → ⊥) → eqb i colorMode ≡ rowShows i
+unfolding rowShows
+shows-last i a b c = simp (ne-eqb i screenBase a, ne-eqb i screenStride b, ne-eqb i pixelMask c)
 
 -- ---- a patch that leaves the four rows and the palette
 
@@ -79,18 +86,6 @@ unfolding portAt paintPatch completedBy Aside
 quiet-data d t r e s a q =
     quiet-patch (paintPatch s a) s tt
     (simp (ap (λ (x : Dac). eqb (x .component) 2 && bothStaged x) q ∙ sym r ∙ e, pick-same))
-
-pub quiet-window : (d : Dac) (i : ℕ) (t : Bool) → QuietUnless t d (Window i)
-unfolding portAt pokePatch Aside
-quiet-window d i t e s a q = quiet-patch (pokePatch _ a) s tt refl
-
-pub quiet-blank : (d : Dac) (t : Bool) → QuietUnless t d Blank
-unfolding portAt Aside
-quiet-blank d t e s a q = quiet-patch nothingStored s tt refl
-
-pub quiet-nowhere : (d : Dac) (t : Bool) → QuietUnless t d Nowhere
-unfolding portAt Aside
-quiet-nowhere d t e s a q = quiet-patch nothingStored s tt refl
 
 -- a read
 pub quiet-read : (s : State) (a : Access) (p : Place) → Quiet s (applied (portAt s a p .fetched) s)

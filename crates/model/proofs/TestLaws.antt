@@ -6,10 +6,11 @@ use mathlib.Core.List.{List, _∷_}
 use mathlib.Core.Path.{_≡_, refl, sym, ap, ap₂, _∙_}
 use native.Mathlib.Nat.{mul-le-mul}
 use native.Mathlib.Omega.{arith}
-use borrow.Author.Tests.{lt-leb, le-leb, ne-eqb, eq-eqb}
+use borrow.Author.Tests.{lt-leb, le-leb, ne-eqb, eq-eqb, eqb-true}
 use lib.Dec.{eqb, leb}
 use Rattle.bits.specs.Choose.{pick}
-use Rattle.bits.proofs.Bools.{and-first}
+use Rattle.bits.proofs.Bools.{and-second}
+use Rattle.bits.proofs.Cases.{byTest}
 use Rattle.chip.specs.declared.Place.{Place}
 use Rattle.chip.specs.declared.State.{State}
 use Rattle.chip.specs.declared.Access.{Access}
@@ -18,11 +19,11 @@ use Rattle.chip.specs.Aperture.{served, span, reachesMemory}
 use Rattle.chip.specs.Place.{placeOf}
 use Rattle.chip.specs.Port.{Port, portAt}
 use Rattle.chip.specs.Access.{isWrite}
-use Rattle.chip.specs.Refusal.{Line, line, firstOf, portOf, laterLines, accessLines, statusOf}
+use Rattle.chip.specs.Refusal.{Line, line, firstOf, portOf, laterLines, laterStatus}
 use Rattle.chip.specs.Sound.{panelOk, memoryOk, componentOk, addressOk, onceOk, bankSound, isState}
 use Rattle.chip.specs.Palette.{paletteOk}
 use Rattle.model.specs.Parts.{sizesOk}
-use Rattle.model.specs.Stages.{placeLines, lentOk, formOk, laterFrom, statusFrom}
+use Rattle.model.specs.Stages.{placeLines, lentOk, formOk, laterFrom, laterAt}
 
 -- a definition over places, at the place that was found
 pub at-place : {A : Type 0} (f : Place → A) (p q : Place) (r : A) → p ≡ q → r ≡ f q → r ≡ f p
@@ -95,26 +96,27 @@ module _ (q : Port) (a : Access) (x : Bool) (ex : x ≡ formOk a) where
       line-past 3 x (formOk a) (line 4 (not (eqb (a .offset % 4) 0)) ∷ placeLines q (isWrite a)) r ex e
       (line-past 4 (eqb (a .offset % 4) 0) (eqb (a .offset % 4) 0) (placeLines q (isWrite a)) r refl (eq-eqb (a .offset % 4) 0 n) h)
 
--- all lines
-module _ (s : State) (ml pl : ℕ) (q : Port) (a : Access) (x : Bool) (ex : x ≡ isState s) where
-  pub line-one : x ≡ false → 1 ≡ statusFrom s ml pl q a
-  unfolding statusFrom
-  line-one e = line-hit 1 x (isState s) (line 2 (not (lentOk s ml pl)) ∷ laterFrom q a) ex e
+-- the lines from 2 on, at a place
+module _ (s : State) (ml pl : ℕ) (a : Access) (p : Place) (y : Bool) (ey : y ≡ lentOk (s .width) (s .height) (s .fitted) ml pl) where
+  pub line-two : y ≡ false → 2 ≡ laterAt s ml pl a p
+  unfolding laterAt
+  line-two f = line-hit 2 y (lentOk (s .width) (s .height) (s .fitted) ml pl) (laterFrom (portAt s a p) a) ey f
 
-  module _ (y : Bool) (ey : y ≡ lentOk s ml pl) (e : x ≡ true) where
-    pub line-two : y ≡ false → 2 ≡ statusFrom s ml pl q a
-    unfolding statusFrom
-    line-two f = line-past 1 x (isState s) (line 2 (not (lentOk s ml pl)) ∷ laterFrom q a) 2 ex e (line-hit 2 y (lentOk s ml pl) (laterFrom q a) ey f)
-
-    pub after-two : (r : ℕ) → y ≡ true → r ≡ firstOf (laterFrom q a) → r ≡ statusFrom s ml pl q a
-    unfolding statusFrom
-    after-two r f h =
-        line-past 1 x (isState s) (line 2 (not (lentOk s ml pl)) ∷ laterFrom q a) r ex e (line-past 2 y (lentOk s ml pl) (laterFrom q a) r ey f h)
+  pub after-two : (r : ℕ) → y ≡ true → r ≡ firstOf (laterFrom (portAt s a p) a) → r ≡ laterAt s ml pl a p
+  unfolding laterAt
+  after-two r f h = line-past 2 y (lentOk (s .width) (s .height) (s .fitted) ml pl) (laterFrom (portAt s a p) a) r ey f h
 
 -- at the place of the access they are the definition's
-pub status-is : (s : State) (ml pl : ℕ) (a : Access) (p : Place) → p ≡ placeOf s a → statusFrom s ml pl (portAt s a p) a ≡ statusOf s ml pl a
-unfolding statusFrom laterFrom placeLines statusOf accessLines laterLines portOf
-status-is s ml pl a p e = ap (λ (x : Place). statusFrom s ml pl (portAt s a x) a) e
+pub later-is : (s : State) (ml pl : ℕ) (a : Access) (p : Place) → p ≡ placeOf s a → laterAt s ml pl a p ≡ laterStatus s ml pl a
+unfolding laterAt laterFrom placeLines laterStatus laterLines portOf
+later-is s ml pl a p e = ap (λ (x : Place). laterAt s ml pl a x) e
+
+-- where none holds, the picture has the panel's size
+pub lent-size : (s : State) (ml pl : ℕ) (a : Access) → laterStatus s ml pl a ≡ 0 → pl ≡ s .width * s .height
+unfolding laterStatus laterLines
+lent-size s ml pl a e =
+    let t : (eqb ml (s .fitted) && eqb pl (s .width * s .height)) ≡ true = byTest (eqb ml (s .fitted) && eqb pl (s .width * s .height)) (λ u. u) (λ u. absurd (let z : 2 ≡ 0 = sym (simp u) ∙ e in omega arith)) in
+    eqb-true pl (s .width * s .height) (and-second (eqb ml (s .fitted)) (eqb pl (s .width * s .height)) t)
 
 -- ---- two words multiplied fit in two words
 
@@ -157,7 +159,3 @@ unfolding sizesOk isState
 all-tests s a b c d p q u v =
     ap₂ _&&_ (ap₂ _&&_ (ap₂ _&&_ p q) u) v
     ∙ grouped (panelOk (s .width) (s .height)) (memoryOk (s .fitted)) (componentOk (s .dac)) (addressOk (s .dac)) (onceOk (s .once)) _ (paletteOk (s .palette))
-
-pub panel-of : (s : State) → isState s ≡ true → panelOk (s .width) (s .height) ≡ true
-unfolding isState
-panel-of s e = and-first (panelOk (s .width) (s .height)) _ e

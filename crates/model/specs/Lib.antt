@@ -1,3 +1,4 @@
 pub mod Lanes
 pub mod Parts
 pub mod Stages
+pub mod Places

@@ -1,54 +1,56 @@
-// A read: refused with nothing altered, or done. Memory and picture are lent to be read only.
-ghost use mathlib.Core.Path.{_≡_};
+// A read by value: the state is taken apart, read in place, and put together.
 ghost use Rattle.chip.specs.Access.{reads};
-ghost use Rattle.chip.specs.Patch.{applied};
-ghost use Rattle.chip.specs.Port.{knownIn, wordIn, portAt};
-ghost use Rattle.chip.specs.Step.{answered, stepOf, Gives};
-use crate::answer::done;
-use crate::answer::refused;
-use crate::seen::known_in;
-use crate::seen::seen_at;
-use crate::seen::word_in;
-use crate::status::status_of;
-use crate::written::dac_after;
-use chip::Access;
+ghost use Rattle.chip.specs.Step.{stepOf, Gives};
 use chip::Answer;
-use chip::Kind;
-use chip::Place;
 use chip::State;
+use palette::dac::dac_bytes;
+use palette::dac::dac_of;
 
-// The state after the read, and what the state before it shows. A read shows nothing new: no dot is visited.
-fn read_state<'a>(s: State, a: Access, p: Place, memory: &'a [u8]) -> Answer
-    ensures { λ r. ⌜ r ≡ answered 0 (wordIn (portAt s a p .seen (now (memory .entry))) (a .enables)) (knownIn (portAt s a p .seen (now (memory .entry))) (a .enables)) 0 (applied (portAt s a p .fetched) s) ⌝ }
-{
-    let d = dac_after(s.dac, a, p);
-    let mut n = s;
-    n.dac = d;
-    let x = seen_at(s, a, p, memory);
-    done(word_in(x, a.enables), known_in(x, a.enables), 0, n)
-}
-
-pub fn read(
+pub fn read<'a>(
     s: State,
     target: u32,
     offset: u32,
     enables: u32,
-    memory: &[u8],
-    picture: &[u32],
+    memory: &'a [u8],
+    picture: &'a [u32],
 ) -> Answer
     ensures { λ r. ⌜ Gives (stepOf s (now (memory .entry)) (now (picture .entry)) (reads target offset enables)) r (now (memory .entry)) (now (picture .entry)) ⌝ }
 {
-    let a = Access {
+    let mut values = s.values;
+    let knowns = s.knowns;
+    let palette = s.palette;
+    let mut dac = dac_bytes(s.dac);
+    let r = crate::lent::read(
+        s.width,
+        s.height,
+        s.fitted,
+        s.once,
+        &mut values,
+        &knowns,
+        &palette,
+        &mut dac,
         target,
         offset,
-        kind: Kind::Read,
         enables,
-        word: 0,
+        memory,
+        picture,
+    );
+    let d = dac_of(&dac);
+    let n = State {
+        width: s.width,
+        height: s.height,
+        fitted: s.fitted,
+        once: s.once,
+        values,
+        knowns,
+        palette,
+        dac: d,
     };
-    let p = registers::place::place_of(s.dac, target, offset);
-    let n = status_of(s, memory.len() as u64, picture.len() as u64, a, p);
-    if n != 0 {
-        return refused(n, s);
+    Answer {
+        status: r.status,
+        word: r.word,
+        known: r.known,
+        changed: 0,
+        state: n,
     }
-    read_state(s, a, p, memory)
 }

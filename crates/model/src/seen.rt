@@ -1,58 +1,76 @@
 // What a read or a look sees before its lanes are picked.
+ghost use Prim.Native.Nat.{ℕ};
 ghost use mathlib.Core.Path.{_≡_};
-ghost use mathlib.Core.List.{[]};
-ghost use Rattle.chip.specs.declared.Place.the-variants.{Register, PaletteData, Window};
-ghost use Rattle.chip.specs.Port.{knownIn, wordIn, wide, portAt};
+ghost use lib.ListN.{getD};
+ghost use Rattle.bits.specs.Bit.{bit};
+ghost use Rattle.bits.specs.Word.{full};
+ghost use Rattle.chip.specs.Units.{atByte};
+ghost use Rattle.chip.specs.Bank.{miscControl};
+ghost use Rattle.chip.specs.Palette.{entryOf};
+ghost use Rattle.chip.specs.Aperture.{wordFrom};
+ghost use Rattle.chip.specs.Parts.{made};
+ghost use Rattle.chip.specs.Port.{seen, seenPart, knownIn, wordIn, portAt};
+ghost use Rattle.model.specs.Places.{replyOf};
 use chip::Access;
+use chip::Dac;
 use chip::MISC_CONTROL;
 use chip::Place;
+use chip::ROWS;
+use chip::Reply;
 use chip::Seen;
-use chip::State;
 use registers::bank::held;
 
-fn seen_register(s: State, a: Access, i: usize) -> Seen
-    ensures { λ r. ⌜ r ≡ portAt s a (Register i) .seen [] ⌝ }
+fn seen_register<'a>(values: &'a [u32; ROWS], knowns: &'a [u32; ROWS], i: usize) -> Seen
+    ensures { λ r. ⌜ r ≡ seen (getD (now (values .entry)) i 0) (getD (now (knowns .entry)) i 0) ⌝ }
 {
     Seen {
-        value: held(&s.values, i),
-        known: held(&s.knowns, i),
+        value: held(values, i),
+        known: held(knowns, i),
     }
 }
 
 // PaletteWidth, bit 1 of RDMiscControl: 8 bits where it is set, else 6.
-pub(crate) fn palette_wide(s: State) -> bool
-    ensures { λ r. ⌜ r ≡ wide s ⌝ }
+pub(crate) fn palette_wide(values: &[u32; ROWS]) -> bool
+    ensures { λ r. ⌜ r ≡ bit 1 (getD (now (values .entry)) miscControl 0) ⌝ }
 {
-    bits::bit_of(1, held(&s.values, MISC_CONTROL))
+    bits::bit_of(1, held(values, MISC_CONTROL))
 }
 
-fn seen_data(s: State, a: Access) -> Seen
-    ensures { λ r. ⌜ r ≡ portAt s a PaletteData .seen [] ⌝ }
+fn seen_data<'a>(values: &'a [u32; ROWS], palette: &'a [u32; 256], d: Dac) -> Seen
+    ensures { λ r. ⌜ r ≡ seenPart (bit 1 (getD (now (values .entry)) miscControl 0)) (d .component) (entryOf (now (palette .entry)) (d .address)) ⌝ }
 {
-    palette::entries::seen_palette(palette_wide(s), s.dac, &s.palette)
+    palette::entries::seen_palette(palette_wide(values), d, palette)
 }
 
-fn seen_window<'a>(s: State, a: Access, i: usize, memory: &'a [u8]) -> Seen
-    ensures { λ r. ⌜ r ≡ portAt s a (Window i) .seen (now (memory .entry)) ⌝ }
+fn seen_window<'a>(values: &'a [u32; ROWS], a: Access, i: usize, memory: &'a [u8]) -> Seen
+    ensures { λ r. ⌜ r ≡ seen (wordFrom (getD (now (values .entry)) i 0) (now (memory .entry)) (atByte (a .offset))) full ⌝ }
 {
-    let control = held(&s.values, i);
+    let control = held(values, i);
     Seen {
         value: aperture::word_from(control, memory, a.offset),
         known: 0xFFFFFFFF,
     }
 }
 
-pub(crate) fn seen_at<'a>(s: State, a: Access, p: Place, memory: &'a [u8]) -> Seen
-    ensures { λ r. ⌜ r ≡ portAt s a p .seen (now (memory .entry)) ⌝ }
+pub(crate) fn seen_at<'a>(
+    values: &'a [u32; ROWS],
+    knowns: &'a [u32; ROWS],
+    palette: &'a [u32; 256],
+    d: Dac,
+    a: Access,
+    p: Place,
+    memory: &'a [u8],
+) -> Seen
+    ensures { λ r. ⌜ ((w h f o : ℕ) → r ≡ portAt (made w h f o (now (values .entry)) (now (knowns .entry)) (now (palette .entry)) d) a p .seen (now (memory .entry))) ⌝ }
 {
     match p {
-        Place::Register(i) => seen_register(s, a, i),
+        Place::Register(i) => seen_register(values, knowns, i),
         Place::Address => Seen {
-            value: s.dac.address as u32,
-            known: s.dac.known as u32,
+            value: d.address as u32,
+            known: d.known as u32,
         },
-        Place::PaletteData => seen_data(s, a),
-        Place::Window(i) => seen_window(s, a, i, memory),
+        Place::PaletteData => seen_data(values, palette, d),
+        Place::Window(i) => seen_window(values, a, i, memory),
         Place::Blank => Seen {
             value: 0,
             known: 0xFFFFFFFF,
@@ -72,4 +90,14 @@ pub(crate) fn word_in(x: Seen, e: u32) -> u32
     ensures { λ r. ⌜ r ≡ wordIn x e ⌝ }
 {
     bits::bits_inside(x.value, known_in(x, e))
+}
+
+pub(crate) fn reply_of(x: Seen, e: u32) -> Reply
+    ensures { λ r. ⌜ r ≡ replyOf x e ⌝ }
+{
+    Reply {
+        status: 0,
+        word: word_in(x, e),
+        known: known_in(x, e),
+    }
 }

@@ -1,8 +1,11 @@
-// What makes a state a state: refusal 1. The tables are gathered in straight loops, and no test waits for another, since nearly every state passes all.
+// What makes a state a state: refusal 1. The tables are gathered in straight loops, and none of the four groups of tests waits for another, since nearly every
+// state passes all.
 ghost use mathlib.Core.Path.{_≡_};
+ghost use Rattle.chip.specs.Parts.{made};
 ghost use Rattle.chip.specs.Sound.{memoryOk, isState};
 ghost use Rattle.model.specs.Parts.{sizesOk};
-use chip::State;
+use chip::Dac;
+use chip::ROWS;
 
 pub(crate) fn memory_ok(fitted: u64) -> bool
     ensures { λ r. ⌜ r ≡ memoryOk fitted ⌝ }
@@ -27,11 +30,20 @@ fn sizes_ok(width: u32, height: u32, fitted: u32, once: u32) -> bool
     false
 }
 
-pub(crate) fn is_state(s: State) -> bool
-    ensures { λ r. ⌜ r ≡ isState s ⌝ }
+pub fn is_state<'a>(
+    width: u32,
+    height: u32,
+    fitted: u32,
+    once: u32,
+    values: &'a [u32; ROWS],
+    knowns: &'a [u32; ROWS],
+    palette: &'a [u32; 256],
+    d: Dac,
+) -> bool
+    ensures { λ r. ⌜ r ≡ isState (made width height fitted once (now (values .entry)) (now (knowns .entry)) (now (palette .entry)) d) ⌝ }
 {
-    sizes_ok(s.width, s.height, s.fitted, s.once)
-        & palette::dac::dac_sound(s.dac)
-        & registers::bank::bank_sound(s.once, &s.values, &s.knowns)
-        & palette::entries::palette_sound(&s.palette)
+    sizes_ok(width, height, fitted, once)
+        & palette::dac::dac_sound(d)
+        & registers::bank::bank_sound(once, values, knowns)
+        & palette::entries::palette_sound(palette)
 }

@@ -1,20 +1,24 @@
-// The refusals of a read, a write and a look, in the order 1 to 7.
+// The refusals of a read, a write and a look after the first, in the order 2 to 7.
+ghost use Prim.Native.Nat.{ℕ};
+ghost use mathlib.Core.List.{List};
 ghost use mathlib.Core.Path.{_≡_};
+ghost use Rattle.chip.specs.declared.Dac.{Dac};
 ghost use Rattle.chip.specs.declared.Place.the-variants.{Register, Window};
+ghost use Rattle.chip.specs.Parts.{made};
 ghost use Rattle.chip.specs.Port.{portAt};
 ghost use Rattle.chip.specs.Access.{isWrite};
 ghost use Rattle.chip.specs.Refusal.{firstOf};
-ghost use Rattle.model.specs.Stages.{lentOk, formOk, placeLines, laterFrom, statusFrom};
+ghost use Rattle.model.specs.Stages.{lentOk, formOk, placeLines, laterFrom, laterAt};
 use chip::Access;
 use chip::Place;
-use chip::State;
+use chip::ROWS;
 use registers::bank::held;
 use registers::bank::row_reads;
 use registers::bank::row_writes;
 
 // A register has its directions.
-fn register_status(s: State, a: Access, i: usize) -> u32
-    ensures { λ r. ⌜ r ≡ firstOf (placeLines (portAt s a (Register i)) (isWrite a)) ⌝ }
+fn register_status(a: Access, i: usize) -> u32
+    ensures { λ r. ⌜ ((w h f o : ℕ) (vs ks p : List ℕ) (d : Dac) → r ≡ firstOf (placeLines (portAt (made w h f o vs ks p d) a (Register i)) (isWrite a))) ⌝ }
 {
     let k = a.kind;
     if k.is_write() {
@@ -30,11 +34,11 @@ fn register_status(s: State, a: Access, i: usize) -> u32
 }
 
 // Memory is fitted, and the mode is served.
-fn window_status(s: State, a: Access, i: usize) -> u32
-    ensures { λ r. ⌜ r ≡ firstOf (placeLines (portAt s a (Window i)) (isWrite a)) ⌝ }
+fn window_status(fitted: u32, values: &[u32; ROWS], a: Access, i: usize) -> u32
+    ensures { λ r. ⌜ ((w h o : ℕ) (ks p : List ℕ) (d : Dac) → r ≡ firstOf (placeLines (portAt (made w h fitted o (now (values .entry)) ks p d) a (Window i)) (isWrite a))) ⌝ }
 {
-    let control = held(&s.values, i);
-    if !aperture::reaches_memory(s.fitted, control, a.offset) {
+    let control = held(values, i);
+    if !aperture::reaches_memory(fitted, control, a.offset) {
         return 5;
     }
     if !aperture::mode_served(control) {
@@ -44,24 +48,24 @@ fn window_status(s: State, a: Access, i: usize) -> u32
 }
 
 // Lines 5, 6 and 7.
-fn place_status(s: State, a: Access, p: Place) -> u32
-    ensures { λ r. ⌜ r ≡ firstOf (placeLines (portAt s a p) (isWrite a)) ⌝ }
+fn place_status(fitted: u32, values: &[u32; ROWS], a: Access, p: Place) -> u32
+    ensures { λ r. ⌜ ((w h o : ℕ) (ks q : List ℕ) (d : Dac) → r ≡ firstOf (placeLines (portAt (made w h fitted o (now (values .entry)) ks q d) a p) (isWrite a))) ⌝ }
 {
     match p {
-        Place::Register(i) => register_status(s, a, i),
+        Place::Register(i) => register_status(a, i),
         Place::Address => 0,
         Place::PaletteData => 0,
-        Place::Window(i) => window_status(s, a, i),
+        Place::Window(i) => window_status(fitted, values, a, i),
         Place::Blank => 0,
         Place::Nowhere => 5,
     }
 }
 
-fn lent_ok(s: State, memory: u64, picture: u64) -> bool
-    ensures { λ r. ⌜ r ≡ lentOk s memory picture ⌝ }
+fn lent_ok(width: u32, height: u32, fitted: u32, memory: u64, picture: u64) -> bool
+    ensures { λ r. ⌜ r ≡ lentOk width height fitted memory picture ⌝ }
 {
-    if memory == s.fitted as u64 {
-        return picture == (s.width as u64) * (s.height as u64);
+    if memory == fitted as u64 {
+        return picture == (width as u64) * (height as u64);
     }
     false
 }
@@ -76,8 +80,8 @@ fn form_ok(a: Access) -> bool
 }
 
 // Lines 3 and on.
-fn form_status(s: State, a: Access, p: Place) -> u32
-    ensures { λ r. ⌜ r ≡ firstOf (laterFrom (portAt s a p) a) ⌝ }
+fn form_status(fitted: u32, values: &[u32; ROWS], a: Access, p: Place) -> u32
+    ensures { λ r. ⌜ ((w h o : ℕ) (ks q : List ℕ) (d : Dac) → r ≡ firstOf (laterFrom (portAt (made w h fitted o (now (values .entry)) ks q d) a p) a)) ⌝ }
 {
     if !form_ok(a) {
         return 3;
@@ -85,18 +89,24 @@ fn form_status(s: State, a: Access, p: Place) -> u32
     if a.offset % 4 != 0 {
         return 4;
     }
-    place_status(s, a, p)
+    place_status(fitted, values, a, p)
 }
 
-// The number of the refusal, or 0, at the place p; memory in bytes and the picture in words as lent.
-pub(crate) fn status_of(s: State, memory: u64, picture: u64, a: Access, p: Place) -> u32
-    ensures { λ r. ⌜ r ≡ statusFrom s memory picture (portAt s a p) a ⌝ }
+// The number of the refusal after 1, or 0, at the place p; memory in bytes and the picture in words as lent.
+pub(crate) fn later_status(
+    width: u32,
+    height: u32,
+    fitted: u32,
+    values: &[u32; ROWS],
+    memory: u64,
+    picture: u64,
+    a: Access,
+    p: Place,
+) -> u32
+    ensures { λ r. ⌜ ((o : ℕ) (ks q : List ℕ) (d : Dac) → r ≡ laterAt (made width height fitted o (now (values .entry)) ks q d) memory picture a p) ⌝ }
 {
-    if !crate::sound::is_state(s) {
-        return 1;
-    }
-    if !lent_ok(s, memory, picture) {
+    if !lent_ok(width, height, fitted, memory, picture) {
         return 2;
     }
-    form_status(s, a, p)
+    form_status(fitted, values, a, p)
 }

@@ -1,38 +1,10 @@
-// A write: refused with nothing altered, or done. Its place is found once.
-ghost use mathlib.Core.Path.{_≡_};
-ghost use mathlib.Core.Bool.{true};
-ghost use lib.ListN.{length};
+// A write by value: the state is taken apart, written in place, and put together.
 ghost use Rattle.chip.specs.Access.{writes};
-ghost use Rattle.chip.specs.Patch.{applied};
-ghost use Rattle.chip.specs.Port.{portAt};
-ghost use Rattle.chip.specs.Step.{settled, stepOf, Gives};
-ghost use Rattle.picture.specs.Draw.{fits};
-use crate::answer::done;
-use crate::answer::refused;
-use crate::status::status_of;
-use crate::window::write_window;
-use crate::written::may_show;
-use crate::written::written_at;
-use chip::APERTURE_ONE;
-use chip::APERTURE_TWO;
-use chip::Access;
+ghost use Rattle.chip.specs.Step.{stepOf, Gives};
 use chip::Answer;
-use chip::Kind;
-use chip::Place;
 use chip::State;
-
-// The panel is passed once where the picture may show the change, else not at all.
-fn write_state<'a>(s: State, a: Access, p: Place, memory: &'a [u8], picture: &mut [u32]) -> Answer
-    requires { ⌜ fits s s (length (now picture)) ≡ true ⌝ }
-    ensures { λ r. ⌜ Gives (settled s (now (memory .entry)) (now (picture .entry)) (applied (portAt s a p .stored) s) (now (memory .entry)) 0 0) r (now (memory .entry)) (now (picture .exit)) ⌝ }
-{
-    let n = written_at(s, a, p);
-    if may_show(s.dac, p) {
-        let c = picture::redraw::redraw(s, n, memory, picture);
-        return done(0, 0, c, n);
-    }
-    done(0, 0, 0, n)
-}
+use palette::dac::dac_bytes;
+use palette::dac::dac_of;
 
 pub fn write(
     s: State,
@@ -45,23 +17,43 @@ pub fn write(
 ) -> Answer
     ensures { λ r. ⌜ Gives (stepOf s (now (memory .entry)) (now (picture .entry)) (writes target offset enables word)) r (now (memory .exit)) (now (picture .exit)) ⌝ }
 {
-    let a = Access {
+    let mut once = s.once;
+    let mut values = s.values;
+    let mut knowns = s.knowns;
+    let mut palette = s.palette;
+    let mut dac = dac_bytes(s.dac);
+    let r = crate::lent::write(
+        s.width,
+        s.height,
+        s.fitted,
+        &mut once,
+        &mut values,
+        &mut knowns,
+        &mut palette,
+        &mut dac,
         target,
         offset,
-        kind: Kind::Write,
         enables,
         word,
+        memory,
+        picture,
+    );
+    let d = dac_of(&dac);
+    let n = State {
+        width: s.width,
+        height: s.height,
+        fitted: s.fitted,
+        once,
+        values,
+        knowns,
+        palette,
+        dac: d,
     };
-    let p = registers::place::place_of(s.dac, target, offset);
-    let n = status_of(s, memory.len() as u64, picture.len() as u64, a, p);
-    if n != 0 {
-        return refused(n, s);
+    Answer {
+        status: r.status,
+        word: 0,
+        known: 0,
+        changed: r.changed,
+        state: n,
     }
-    if target == 1 {
-        return write_window(s, a, APERTURE_ONE, memory, picture);
-    }
-    if target == 2 {
-        return write_window(s, a, APERTURE_TWO, memory, picture);
-    }
-    write_state(s, a, p, memory, picture)
 }

@@ -1,30 +1,14 @@
--- The palette after a component was written, and what a palette read sees, from the parts that the code computes.
+-- What a palette read sees, from the parts that the code computes.
 -- By the cases of the definitions. Assumes nothing.
 use Prim.Native.Nat.{ℕ}
-use mathlib.Core.Bool.{Bool, true, false, _&&_}
-use mathlib.Core.List.{List}
+use mathlib.Core.Bool.{Bool}
 use mathlib.Core.Option.{Option, none, some}
 use mathlib.Core.Path.{_≡_, refl, ap}
-use lib.Dec.{eqb}
 use Rattle.chip.specs.declared.Colour.{Colour}
-use Rattle.chip.specs.declared.Dac.{Dac}
-use Rattle.chip.specs.Dac.{bothStaged, completedBy}
-use Rattle.chip.specs.Palette.{storeEntry, shownAs, partOf}
-use Rattle.chip.specs.Patch.{painted}
+use Rattle.chip.specs.Palette.{shownAs, partOf}
 use Rattle.chip.specs.Port.{seen, seenPart}
 use Rattle.palette.specs.declared.entries.Found.the-variants.{Never, Stored}
 use Rattle.palette.specs.Entry.{foundOf}
-
-pub completing : (d : Dac) (p : List ℕ) (v : ℕ) → (eqb (d .component) 2 && bothStaged d) ≡ true
-    → storeEntry p (d .address) (record { red = d .red; green = d .green; blue = v }) ≡ painted (completedBy d v) p
-unfolding completedBy
-completing d p v t = simp t
-
-pub staging : (d : Dac) (p : List ℕ) (v : ℕ) → (eqb (d .component) 2 && bothStaged d) ≡ false → p ≡ painted (completedBy d v) p
-unfolding completedBy
-staging d p v t = simp t
-
--- ---- what is seen
 
 pub sees-never : (o : Option Colour) (w : Bool) (c : ℕ) → Never ≡ foundOf o → seen 0 0 ≡ seenPart w c o
 sees-never none w c e = refl

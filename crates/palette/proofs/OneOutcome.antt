@@ -1,7 +1,8 @@
 -- Any two outcomes that the contract of a public function allows are equal: the RAMDAC and the palette.
 -- Each contract is an equation for the result, and one law says that two results of one equation are equal. Assumes nothing.
 use Rattle.bits.proofs.Cases.{same-value}
-use Rattle.bits.proofs.Fixes.{Fixes}
+use denote.Ref.{now}
+use Rattle.bits.proofs.Fixes.{Fixes, FixesLent}
 use Rattle.palette.proofs.dac.aimed_at.Reads as aimed-at
 use Rattle.palette.proofs.dac.after_fetch.Reads as after-fetch
 use Rattle.palette.proofs.dac.after_paint.Reads as after-paint
@@ -15,8 +16,10 @@ use Rattle.palette.proofs.entries.part_of.Reads as part-of
 use Rattle.palette.proofs.entries.palette_sound.Reads as palette-sound
 use Rattle.palette.proofs.entries.seen_palette.Reads as seen-palette
 use Rattle.palette.proofs.dac.reset_dac.Reads as reset-dac
-use Rattle.palette.proofs.entries.palette_after.Reads as palette-after
-use Rattle.palette.proofs.entries.empty_palette.Reads as empty-palette
+use Rattle.palette.proofs.dac.dac_of.Reads as dac-of
+use Rattle.palette.proofs.dac.dac_bytes.Reads as dac-bytes
+use Rattle.palette.proofs.dac.put_dac.Reads as put-dac
+use Rattle.palette.proofs.entries.reset_palette.Reads as reset-palette
 
 pub aimed-at-one : Fixes aimed-at.Post
 aimed-at-one κs a r r′ x x′ p q = same-value p q
@@ -36,7 +39,7 @@ dac-sound-one κs a r r′ x x′ p q = same-value p q
 pub entry-of-one : Fixes entry-of.Post
 entry-of-one κs a r r′ x x′ p q = same-value p q
 
-pub store-entry-one : Fixes store-entry.Post
+pub store-entry-one : FixesLent store-entry.Post (λ κs x. now (x .0))
 store-entry-one κs a r r′ x x′ p q = same-value p q
 
 pub kept-as-one : Fixes kept-as.Post
@@ -57,8 +60,14 @@ seen-palette-one κs a r r′ x x′ p q = same-value p q
 pub reset-dac-one : Fixes reset-dac.Post
 reset-dac-one κs a r r′ x x′ p q = same-value p q
 
-pub palette-after-one : Fixes palette-after.Post
-palette-after-one κs a r r′ x x′ p q = same-value p q
+pub dac-of-one : Fixes dac-of.Post
+dac-of-one κs a r r′ x x′ p q = same-value p q
 
-pub empty-palette-one : Fixes empty-palette.Post
-empty-palette-one κs a r r′ x x′ p q = same-value p q
+pub dac-bytes-one : Fixes dac-bytes.Post
+dac-bytes-one κs a r r′ x x′ p q = same-value p q
+
+pub put-dac-one : FixesLent put-dac.Post (λ κs x. now (x .0))
+put-dac-one κs a r r′ x x′ p q = same-value p q
+
+pub reset-palette-one : FixesLent reset-palette.Post (λ κs x. now (x .0))
+reset-palette-one κs a r r′ x x′ p q = same-value p q

@@ -1,5 +1,4 @@
-// The palette's entries, how a component is kept and shown, and the palette after a component was written.
-use crate::dac::completes;
+// The palette's entries, and how a component is kept and shown.
 use chip::Colour;
 use chip::Dac;
 use chip::Seen;
@@ -8,8 +7,6 @@ ghost use Prim.Native.Nat.{ℕ};
 ghost use mathlib.Core.Bool.{_&&_};
 ghost use lib.Dec.{leb};
 ghost use Rattle.chip.specs.Palette.{emptyPalette, colouredWord, colourIn, entryOf, storeEntry, wordOk, keptAs, shownAs, partOf, paletteOk};
-ghost use Rattle.chip.specs.Dac.{completedBy};
-ghost use Rattle.chip.specs.Patch.{painted};
 ghost use Rattle.chip.specs.Port.{seenPart};
 ghost use Rattle.palette.specs.Entry.{foundOf};
 
@@ -45,12 +42,11 @@ fn coloured_word(c: Colour) -> u32
     0x01000000 + wide_of(c.red) * 0x10000 + wide_of(c.green) * 0x100 + wide_of(c.blue)
 }
 
-pub fn store_entry(p: [u32; 256], e: u8, c: Colour) -> [u32; 256]
-    ensures { λ r. ⌜ r ≡ storeEntry p e c ⌝ }
+// Entry e takes a colour, in place.
+pub fn store_entry(p: &mut [u32; 256], e: u8, c: Colour)
+    ensures { λ r. ⌜ now (p .exit) ≡ storeEntry (now (p .entry)) e c ⌝ }
 {
-    let mut q = p;
-    q[e as usize] = coloured_word(c);
-    q
+    p[e as usize] = coloured_word(c);
 }
 
 fn wide_of(b: u8) -> u32
@@ -142,24 +138,9 @@ pub fn seen_palette<'a>(wide: bool, d: Dac, p: &'a [u32; 256]) -> Seen
     }
 }
 
-// The palette after byte v, as it is stored, was written to a component: only the third, after the two before it, stores an entry.
-pub fn palette_after(d: Dac, p: [u32; 256], v: u8) -> [u32; 256]
-    ensures { λ r. ⌜ r ≡ painted (completedBy d v) p ⌝ }
+// The palette at reset: nothing stored.
+pub fn reset_palette(p: &mut [u32; 256])
+    ensures { λ r. ⌜ now (p .exit) ≡ emptyPalette ⌝ }
 {
-    if completes(d) {
-        let c = Colour {
-            red: d.red,
-            green: d.green,
-            blue: v,
-        };
-        return store_entry(p, d.address, c);
-    }
-    p
-}
-
-// Nothing stored.
-pub fn empty_palette() -> [u32; 256]
-    ensures { λ r. ⌜ r ≡ emptyPalette ⌝ }
-{
-    [0u32; 256]
+    *p = [0u32; 256];
 }

@@ -1,13 +1,14 @@
--- What of a state the redraws read beside its tables: one record, and the panel's dots by it.
+-- What of a view the redraws read beside its table: one record, and the panel's dots by it.
 use Prim.Native.Nat.{ℕ}
 use mathlib.Core.List.{List}
-use Rattle.chip.specs.declared.State.{State}
-use Rattle.chip.specs.View.{baseOf, strideOf}
 use Rattle.picture.specs.declared.view.Layout.{Layout}
-use Rattle.picture.specs.Draw.{lookAt, shownOf, shownWord, Panel}
+use Rattle.picture.specs.declared.view.View.{View}
+use Rattle.picture.specs.View.{shownWord, unitsIn}
+use Rattle.picture.specs.Draw.{lookAt, Panel}
 
-unfoldable pub layoutOf : State → Layout
-layoutOf s = record { past = shownWord (shownOf s) 0x02000000; base = baseOf s; stride = strideOf s; width = s .width; height = s .height }
+unfoldable pub layoutOf : View → Layout
+layoutOf v =
+    record { past = shownWord (v .shown) 0x02000000; base = unitsIn (v .base); stride = unitsIn (v .stride); width = v .width; height = v .height }
 
 -- the words of the dots of a panel of some width
 abbrev pub laidDots : Layout → ℕ → List ℕ → List ℕ → ℕ → ℕ

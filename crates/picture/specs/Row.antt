@@ -19,6 +19,25 @@ pub record Reach (far : ℕ) (r : Row) (size : ℕ) : Type 0 where
   pub old : r .old .at .0 < far
   pub new : r .new .at .0 < far
 
+-- one word at every dot
+abbrev pub always : ℕ → ℕ → ℕ
+always w j = w
+
+-- a row of at most 1,024 dots in the picture
+pub record Room (r : Row) (size : ℕ) : Type 0 where
+  pub room : r .first + r .width ≤ size
+  pub narrow : r .width ≤ 1024
+
+-- r is the further of a and b
+pub record Further (a b r : ℕ) : Type 0 where
+  pub first : a ≤ r
+  pub second : b ≤ r
+  pub least : (k : ℕ) → a ≤ k → b ≤ k → r ≤ k
+
+-- the row up to its dot d
+abbrev pub cutTo : Row → ℕ → Row
+cutTo r d = record { old = r .old; new = r .new; first = r .first; width = d }
+
 -- the row from its dot d on
 abbrev pub restOf : Row → ℕ → Row
 restOf r d =
@@ -33,6 +52,6 @@ restOf r d =
 pub record From (r : Row) (d : ℕ) : Type 0 where
   pub within : d ≤ r .width
   pub narrow : r .width ≤ 1024
-  pub old : r .old .at .0 < 0x10000000000
-  pub new : r .new .at .0 < 0x10000000000
+  pub old : r .old .at .0 < 0x20000000000
+  pub new : r .new .at .0 < 0x20000000000
   pub first : r .first + r .width < 0x10000000000000000

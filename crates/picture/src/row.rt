@@ -3,15 +3,12 @@ ghost use mathlib.Core.Path.{_≡_};
 ghost use Prim.Native.Nat.{_^_};
 ghost use lib.ListN.{length};
 ghost use Rattle.picture.specs.Draw.{RowDrawn};
-ghost use Rattle.picture.specs.Row.{oldDots, newDots, Reach, From, restOf};
-ghost use Rattle.picture.specs.Differ.{Differs, wayOf};
+ghost use Rattle.picture.specs.Row.{oldDots, newDots, always, Reach, Room, From, Further, cutTo, restOf};
 use crate::dot::Row;
 use crate::dot::Start;
 use crate::dot::look;
 use crate::dot::put;
 use crate::dot::wide;
-use crate::entry::Differ;
-use crate::entry::entry_row;
 use crate::entry::inside;
 
 // Dot by dot, each asking where memory ends.
@@ -56,8 +53,66 @@ fn rest_of(row: Row, d: usize) -> Row
     }
 }
 
+// The row up to its dot d.
+fn cut_to(row: Row, d: usize) -> Row
+    ensures { λ r. ⌜ r ≡ cutTo row d ⌝ }
+{
+    let old = row.old;
+    let new = row.new;
+    Row {
+        old,
+        new,
+        first: row.first,
+        width: d,
+    }
+}
+
+// A row none of whose bytes lies in memory, in either layout.
+fn past_row(row: Row, picture: &mut [u32]) -> u32
+    requires { ⌜ Room row (length (now picture)) ⌝ }
+    ensures { λ r. ⌜ RowDrawn (always (row .old .past)) (always (row .new .past)) (row .first) (row .width) (now (picture .entry)) r (now (picture .exit)) ⌝ }
+{
+    let a = row.old.past;
+    let b = row.new.past;
+    if a == b {
+        return 0;
+    }
+    let width = row.width;
+    let mut n: u32 = 0;
+    let mut x = 0;
+    while x < width {
+        n += put(picture, row.first + x, a, b);
+        x += 1;
+    }
+    n
+}
+
+fn further(a: usize, b: usize) -> usize
+    ensures { λ r. ⌜ Further a b r ⌝ }
+{
+    if a < b { b } else { a }
+}
+
+// The rest of a row, dot by dot as far as it lies in memory in one layout; past memory's end in both no dot is looked up, and mostly none changes.
+fn rest_row<'a>(
+    row: Row,
+    t0: &'a [u32; 256],
+    t1: &'a [u32; 256],
+    memory: &'a [u8],
+    picture: &mut [u32],
+) -> u32
+    requires { ⌜ Reach (2 ^ 41) row (length (now picture)) ⌝ }
+    ensures { λ r. ⌜ RowDrawn (oldDots row (now (t0 .entry)) (now (memory .entry))) (newDots row (now (t1 .entry)) (now (memory .entry))) (row .first) (row .width) (now (picture .entry)) r (now (picture .exit)) ⌝ }
+{
+    let one = inside(row.old.at, row.width, memory.len());
+    let two = inside(row.new.at, row.width, memory.len());
+    let d = further(one, two);
+    let n = draw_row(cut_to(row, d), t0, t1, memory, picture);
+    n + past_row(rest_of(row, d), picture)
+}
+
 // By the tables: as far as the row lies inside memory in both layouts no dot asks where memory ends.
-fn both_row<'a>(
+pub(crate) fn both_row<'a>(
     row: Row,
     t0: &'a [u32; 256],
     t1: &'a [u32; 256],
@@ -77,37 +132,5 @@ fn both_row<'a>(
         n += put(picture, row.first + x, t0[v], t1[w]);
         x += 1;
     }
-    n + draw_row(rest_of(row, dots), t0, t1, memory, picture)
-}
-
-fn way_of(found: Differ, row: Row) -> Differ
-    ensures { λ r. ⌜ r ≡ wayOf found row ⌝ }
-{
-    if row.old.at.index() != row.new.at.index() {
-        return Differ::Several;
-    }
-    if row.old.past != row.new.past {
-        return Differ::Several;
-    }
-    found
-}
-
-// None of the dots where nothing can differ, those of one byte where one entry does, else all by the tables.
-pub(crate) fn some_row<'a>(
-    found: Differ,
-    row: Row,
-    t0: &'a [u32; 256],
-    t1: &'a [u32; 256],
-    memory: &'a [u8],
-    picture: &mut [u32],
-) -> u32
-    requires { ⌜ (Reach (2 ^ 40) row (length (now picture))) × (Differs found 256 (now t0) (now t1)) ⌝ }
-    ensures { λ r. ⌜ RowDrawn (oldDots row (now (t0 .entry)) (now (memory .entry))) (newDots row (now (t1 .entry)) (now (memory .entry))) (row .first) (row .width) (now (picture .entry)) r (now (picture .exit)) ⌝ }
-{
-    let way = way_of(found, row);
-    match way {
-        Differ::Nowhere => 0,
-        Differ::At(e) => entry_row(e, row, t0, t1, memory, picture),
-        Differ::Several => both_row(row, t0, t1, memory, picture),
-    }
+    n + rest_row(rest_of(row, dots), t0, t1, memory, picture)
 }

@@ -3,16 +3,13 @@ ghost use Prim.Native.Nat.{_*_};
 ghost use lib.ListN.{length};
 ghost use Rattle.picture.specs.Draw.{Part};
 ghost use Rattle.picture.specs.Layout.{laidDots, Laid, LaidIn};
-ghost use Rattle.picture.specs.Differ.{Differs};
 use crate::dot::Row;
 use crate::dot::Start;
-use crate::entry::Differ;
 use crate::view::Layout;
 use chip::in_bytes;
 
 // Every dot that can change, row after row: rows are counted in units and converted once each. The panel is the old layout's.
 pub(crate) fn draw_rows<'a>(
-    found: Differ,
     old: Layout,
     t0: &'a [u32; 256],
     new: Layout,
@@ -21,7 +18,6 @@ pub(crate) fn draw_rows<'a>(
     picture: &mut [u32],
 ) -> u32
     requires { ⌜ (Laid old (length (now picture))) × (LaidIn old new (length (now picture))) ⌝ }
-    requires { ⌜ Differs found 256 (now t0) (now t1) ⌝ }
     ensures { λ r. ⌜ Part (laidDots old (old .width) (now (t0 .entry)) (now (memory .entry))) (laidDots new (old .width) (now (t1 .entry)) (now (memory .entry))) 0 (old .height * old .width) (now (picture .entry)) r (now (picture .exit)) ⌝ }
 {
     let height = old.height;
@@ -43,7 +39,7 @@ pub(crate) fn draw_rows<'a>(
             first,
             width: old.width,
         };
-        n += crate::row::some_row(found, row, t0, t1, memory, picture);
+        n += crate::row::both_row(row, t0, t1, memory, picture);
         u0 = u0.plus(old.stride);
         u1 = u1.plus(new.stride);
         first += old.width;

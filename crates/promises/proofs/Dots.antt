@@ -49,7 +49,7 @@ module _ (s : State) where
   abbrev mode : ℕ
   mode = getD (s .values) colorMode 0
 
-  indexed-of : notIndexed s ≡ false → Indexed s
+  indexed-of : notIndexed (s .values) ≡ false → Indexed s
   unfolding notIndexed
   indexed-of e =
       let t = sym (mode-bits mode) ∙ not-false (eqb (mode % 32) 0x10) e in
@@ -63,7 +63,7 @@ module _ (s : State) where
         gui = and-second (not (bit 3 mode)) _ w;
       }
 
-  of-indexed : Indexed s → notIndexed s ≡ false
+  of-indexed : Indexed s → notIndexed (s .values) ≡ false
   unfolding notIndexed
   of-indexed f =
       simp (mode-bits mode, f .format 0 (omega arith), f .format 1 (omega arith), f .format 2 (omega arith), f .format 3 (omega arith), f .gui)
@@ -104,7 +104,7 @@ pixel-mask : everyTo (mask-test (bankRow pixelMask .writable) 8) 32 ≡ true
 unfolding mask-test computed
 pixel-mask = refl
 
-placed-of : (s : State) → unplaced s ≡ false → Placed s
+placed-of : (s : State) → unplaced (s .knowns) ≡ false → Placed s
 unfolding unplaced
 placed-of s e =
     let t = not-false (eqb (getD (s .knowns) screenBase 0 % 0x100000) 0xFFFFF && (eqb (getD (s .knowns) screenStride 0 % 0x100000) 0xFFFFF && eqb (getD (s .knowns) pixelMask 0 % 256) 0xFF)) e in
@@ -115,7 +115,7 @@ placed-of s e =
       mask = known-of 8 (omega arith) (omega arith) s pixelMask pixel-mask (eqb-true _ 0xFF (and-second (eqb (getD (s .knowns) screenStride 0 % 0x100000) 0xFFFFF) _ u));
     }
 
-of-placed : (s : State) → Placed s → unplaced s ≡ false
+of-placed : (s : State) → Placed s → unplaced (s .knowns) ≡ false
 unfolding unplaced
 of-placed s f =
     simp (
@@ -212,19 +212,19 @@ module _ (s : State) (m : List ℕ) (i : ℕ) where
   unfolding dotEntry viewOf maskOf entryAt
   entry-is = ap (λ (k : ℕ). entryOf (s .palette) (inside (getD m k 0) (getD (s .values) pixelMask 0 % 256))) byte-is
 
-  fixed-is : (w : ℕ) → ruled (fixedOf s) w ≡ pick (notIndexed s) 0x03000000 (pick (unplaced s) 0x05000000 w)
+  fixed-is : (w : ℕ) → ruled (fixedOf (s .values) (s .knowns)) w ≡ pick (notIndexed (s .values)) 0x03000000 (pick (unplaced (s .knowns)) 0x05000000 w)
   unfolding fixedOf
-  fixed-is w = byTest (notIndexed s) (λ a. simp a) (λ a. byTest (unplaced s) (λ b. simp (a, b)) (λ b. simp (a, b)))
+  fixed-is w = byTest (notIndexed (s .values)) (λ a. simp a) (λ a. byTest (unplaced (s .knowns)) (λ b. simp (a, b)) (λ b. simp (a, b)))
 
-  word-is : wordOf s m i ≡ firstRule (notIndexed s) (unplaced s) (leb (length m) (dotAt s i)) (entryAt s m i)
+  word-is : wordOf s m i ≡ firstRule (notIndexed (s .values)) (unplaced (s .knowns)) (leb (length m) (dotAt s i)) (entryAt s m i)
   unfolding wordOf viewWord wordAt laidAt underAt underByte beyond viewOf
   word-is =
-      ap (ruled (fixedOf s)) (ap₂ (λ (k : ℕ) (o : Option Colour). pick (leb (length m) k) 0x02000000 (colourWord o)) byte-is entry-is) ∙ fixed-is _
+      ap (ruled (fixedOf (s .values) (s .knowns))) (ap₂ (λ (k : ℕ) (o : Option Colour). pick (leb (length m) k) 0x02000000 (colourWord o)) byte-is entry-is) ∙ fixed-is _
 
   pub rules : Ruled s m i (wordOf s m i)
   unfolding entryAt
   rules =
       subst (Ruled s m i) (sym word-is)
-      (by-rules (notIndexed s) (unplaced s) (leb (length m) (dotAt s i)) (entryAt s m i)
+      (by-rules (notIndexed (s .values)) (unplaced (s .knowns)) (leb (length m) (dotAt s i)) (entryAt s m i)
       (indexed-of s, of-indexed s) (placed-of s, of-placed s) (leb-true (length m) (dotAt s i), le-leb (length m) (dotAt s i)) refl
       (λ k e. entry-shades (s .palette) (inside (getD m (dotAt s i) 0) (getD (s .values) pixelMask 0 % 256)) k e))

@@ -55,3 +55,4 @@ pub mod PaletteWorked
 pub mod PaletteShared
 pub mod PaletteStep
 pub mod Promise10Palette
+pub mod Promise11Sure

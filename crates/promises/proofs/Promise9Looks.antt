@@ -8,11 +8,12 @@ use Rattle.bits.specs.Choose.{everyIn}
 use Rattle.bits.proofs.Cases.{byTest}
 use Rattle.chip.specs.declared.Access.{Access}
 use Rattle.chip.specs.declared.Answer.{Answer}
-use Rattle.chip.specs.declared.Looked.{Looked}
+use Rattle.chip.specs.declared.Reply.{Reply}
+use Rattle.chip.specs.declared.Wrote.{Wrote}
 use Rattle.chip.specs.declared.State.{State}
 use Rattle.chip.specs.declared.Kind.the-variants.{Read, Write, Look}
 use Rattle.chip.specs.Access.{reads, writes, looks, looking, isLook}
-use Rattle.chip.specs.Step.{shownAt}
+use Rattle.chip.specs.Parts.{replied, wrote}
 use Rattle.chip.specs.Trace.{World, step, after, run}
 use Rattle.chip.proofs.Operations.{look-is, no-look-is, no-write-is, read-writes-not, look-writes-not}
 use Rattle.promises.specs.Looks.{Asks, SameAsked, SameShown, unlooked, answersOf, othersIn}
@@ -29,10 +30,13 @@ writes-mean t o e w = (record { kind = refl; target = refl; offset = refl; enabl
 pub looks-mean : (t o e : ℕ) → Asks (looks t o e) Look t o e
 looks-mean t o e = record { kind = refl; target = refl; offset = refl; enables = refl }
 
--- .. and a look's answer: what it shows, with the state that it was handed
-pub shown-means : (s : State) (r : Looked)
-    → (shownAt s r .status ≡ r .status) × (shownAt s r .word ≡ r .word) × (shownAt s r .known ≡ r .known) × (shownAt s r .changed ≡ r .changed) × (shownAt s r .state ≡ s)
-shown-means s r = (refl, refl, refl, refl, refl)
+-- .. and what the replies mean as answers: a read's or a look's with the state that it leaves and no dot changed, a write's with nothing seen
+pub reply-means : (s : State) (r : Reply)
+    → (replied s r .status ≡ r .status) × (replied s r .word ≡ r .word) × (replied s r .known ≡ r .known) × (replied s r .changed ≡ 0) × (replied s r .state ≡ s)
+reply-means s r = (refl, refl, refl, refl, refl)
+
+pub wrote-means : (s : State) (r : Wrote) → (wrote s r .status ≡ r .status) × (wrote s r .word ≡ 0) × (wrote s r .known ≡ 0) × (wrote s r .changed ≡ r .changed) × (wrote s r .state ≡ s)
+wrote-means s r = (refl, refl, refl, refl, refl)
 
 -- a look, accepted or refused, leaves state, memory and picture as they were, and no dot changes
 pub look-alters-nothing : (x : World) (a : Access) → a .kind ≡ Look → (after x a ≡ x) × (step x a .answer .changed ≡ 0)

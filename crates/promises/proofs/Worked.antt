@@ -10,26 +10,22 @@ use lib.ListN.{replicate, length-replicate}
 use Rattle.bits.specs.Choose.{everyIn}
 use Rattle.bits.proofs.Bools.{and-first, and-second, and-both}
 use Rattle.bits.proofs.Lists.{zeros-at}
-use Rattle.chip.specs.declared.State.{State}
 use Rattle.chip.specs.declared.Access.{Access}
-use Rattle.chip.specs.Refusal.{accessLines, laterStatus, statusOf, openingStatus}
+use Rattle.chip.specs.Refusal.{openingStatus}
 use Rattle.chip.specs.Sound.{isState}
-use Rattle.chip.specs.Step.{Outcome, stepOf, sureOf}
+use Rattle.chip.specs.Step.{Outcome}
 use Rattle.chip.specs.Trace.{World, after, run}
 use Rattle.chip.specs.Case.{Case, start, lentOr, meets, agrees, holds, sureStep, sureRun, fits, surely}
 use Rattle.chip.specs.Values.{values}
 use Rattle.chip.specs.Readings.{misread, palettes, widths, entryWords, glances, refusals, words, lanes, pictures}
 use Rattle.chip.proofs.Computed.{computed}
+use Rattle.chip.proofs.Sure.{sure-step}
 use Rattle.chip.proofs.Values.{values-computed, misread-computed, palettes-computed, widths-computed, entry-words-computed, glances-computed, refusals-computed, words-computed, lanes-computed, pictures-computed}
 use Rattle.promises.specs.Good.{Good, Openable}
 use Rattle.promises.proofs.Promise1Refusals.{opening-status}
 use Rattle.promises.proofs.Worlds.{good-kept, good-along, opened-good}
 
 -- ---- an access on a state that is one
-
-pub sure-step : (s : State) (m p : List ℕ) (a : Access) → isState s ≡ true → stepOf s m p a ≡ sureOf s m p a
-unfolding stepOf sureOf statusOf laterStatus accessLines
-sure-step s m p a e = simp e
 
 sure-run : (x : World) (l : List Access) → Good x → run x l ≡ sureRun x l
 sure-run x [] g = refl

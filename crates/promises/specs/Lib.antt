@@ -17,3 +17,4 @@ pub mod Refusals
 pub mod Looks
 pub mod PaletteColumns
 pub mod PaletteAlike
+pub mod Sure

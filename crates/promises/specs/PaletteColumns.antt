@@ -141,10 +141,10 @@ columnSeenBy b m a = pick (isWrite a) (seen 0 0) (columnSeen b a m (placeOf (res
 unfoldable pub columnView : ColumnState → View
 columnView b =
     record {
-      fixed = fixedOf (restOf b);
-      base = baseOf (restOf b);
-      stride = strideOf (restOf b);
-      mask = maskOf (restOf b);
+      fixed = fixedOf (b .values) (b .knowns);
+      base = baseOf (b .values);
+      stride = strideOf (b .values);
+      mask = maskOf (b .values);
       width = b .width;
       height = b .height;
       entry = columnEntry (b .palette);

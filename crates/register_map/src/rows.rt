@@ -1,12 +1,14 @@
-// One register a row, in the order of the offsets.
+// One register a row, in the order of the offsets: on the page, and in the table of the C header.
 use chip::Dac;
 use chip::INDIRECT_FIRST;
 use chip::Place;
 use chip::REGION_ROWS;
+use chip::ROWS;
 use chip::SUBSYSTEM;
 use console::names::say_row;
 use console::say::say;
 use console::say::say_hex;
+use console::say::say_number;
 use console::say::say_word;
 use registers::bank::bank_knowns;
 use registers::bank::bank_resets;
@@ -70,6 +72,26 @@ fn aimed(index: u8) -> Dac {
     }
 }
 
+// A line of the header's table: the row, 0 for region 0, 3 for the configuration header and 4 for an index, the offset or index, and the name.
+fn line(i: usize, kind: u32, o: u32) {
+    if ROWS <= i {
+        return;
+    }
+    say(b"    X(");
+    say_number(i as u32);
+    say(b", ");
+    say_number(kind);
+    say(b", 0x");
+    say_hex(o);
+    say(b", \"");
+    say_row(i);
+    if i == ROWS - 1 {
+        say(b"\")\n");
+    } else {
+        say(b"\") \\\n");
+    }
+}
+
 // A register of region 0, or the port to the indirect ones.
 fn region_row(o: u32, i: usize) {
     if REGION_ROWS <= i {
@@ -86,6 +108,17 @@ fn region_row(o: u32, i: usize) {
     cell(row_writable(i));
     at_reset(i);
     say(b" |\n");
+}
+
+// A register of region 0 in the header's table.
+fn region_line(o: u32) {
+    let place = place_of(aimed(PRESENT), 0, o);
+    let Place::Register(i) = place else {
+        return;
+    };
+    if i < REGION_ROWS {
+        line(i, 0, o);
+    }
 }
 
 fn region_place(o: u32) {
@@ -116,13 +149,24 @@ fn region_place(o: u32) {
     }
 }
 
-pub(crate) fn region() {
+fn region_title() {
     say(
         b"\n## Region 0\n\n| Register | Offset | Directions | Writable | Reset | Known at reset |\n|---|---|---|---|---|---|\n",
     );
+}
+
+// On the page, or in the header's table.
+pub(crate) fn region(table: bool) {
+    if !table {
+        region_title();
+    }
     let mut k: u32 = 0;
     while k < 0x4000 {
-        region_place(k * 4);
+        if table {
+            region_line(k * 4);
+        } else {
+            region_place(k * 4);
+        }
         k += 1;
     }
 }
@@ -159,13 +203,30 @@ fn header_row(o: u32) {
     say(b" |\n");
 }
 
-pub(crate) fn header() {
+fn header_title() {
     say(
         b"\n## Configuration header\n\n| Registers | Offset | Directions | Writable | Cleared by one | Reset | Known |\n|---|---|---|---|---|---|---|\n",
     );
+}
+
+fn header_line(o: u32) {
+    let i = header_at(o);
+    if i < INDIRECT_FIRST {
+        line(i, 3, o);
+    }
+}
+
+pub(crate) fn header(table: bool) {
+    if !table {
+        header_title();
+    }
     let mut k: u32 = 0;
     while k < 64 {
-        header_row(k * 4);
+        if table {
+            header_line(k * 4);
+        } else {
+            header_row(k * 4);
+        }
         k += 1;
     }
 }
@@ -190,14 +251,43 @@ fn indirect_row(i: u8) {
     say(b" |\n");
 }
 
-pub(crate) fn indirect() {
+fn indirect_title() {
     say(
         b"\n## Indirect registers of the RAMDAC\n\n| Register | Index | Directions | Writable | Reset | Known |\n|---|---|---|---|---|---|\n",
     );
+}
+
+fn indirect_line(i: u8) {
+    let place = place_of(aimed(i), 0, INDEXED);
+    let Place::Register(row) = place else {
+        return;
+    };
+    line(row, 4, i as u32);
+}
+
+fn indirect_one(table: bool, i: u8) {
+    if table {
+        indirect_line(i);
+    } else {
+        indirect_row(i);
+    }
+}
+
+pub(crate) fn indirect(table: bool) {
+    if !table {
+        indirect_title();
+    }
     let mut i: u8 = 0;
     while i < 255 {
-        indirect_row(i);
+        indirect_one(table, i);
         i += 1;
     }
-    indirect_row(255);
+    indirect_one(table, 255);
+}
+
+pub(crate) fn table() {
+    say(b"#define PM_REGISTERS(X) \\\n");
+    region(true);
+    header(true);
+    indirect(true);
 }

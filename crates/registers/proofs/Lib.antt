@@ -5,3 +5,4 @@ pub mod Stored
 pub mod PackedEntries
 pub mod Places
 pub mod OneOutcome
+pub mod FaultLaws

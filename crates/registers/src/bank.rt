@@ -7,12 +7,13 @@ ghost use Rattle.chip.specs.Bank.{bankRow, bankResets, bankKnowns};
 ghost use Rattle.chip.specs.Register.{broughtWord};
 ghost use Rattle.chip.specs.Subsystem.{storedBits, fixedBy};
 ghost use Rattle.chip.specs.Sound.{bankSound};
-ghost use Rattle.chip.specs.Patch.{applied};
-ghost use Rattle.chip.specs.Port.{rowPatch};
+ghost use Rattle.registers.specs.Columns.{inSet};
+ghost use Rattle.registers.specs.Written.{RowWritten, BankReset};
 use super::subsystem::half_bits;
 use super::subsystem::once_after;
 use super::subsystem::once_moved;
 use super::table::columns_sound;
+use super::table::put_word;
 use super::table::word_of;
 use bits::bit_of;
 use bits::bits_inside;
@@ -21,92 +22,14 @@ use bits::bits_merged;
 use bits::bits_outside;
 use bits::lanes_of;
 use chip::Access;
+use chip::COMMAND;
 use chip::ROWS;
 use chip::SUBSYSTEM;
-use chip::State;
 
-// The directions: bit 0 read, bit 1 written.
-const WAYS: [u32; ROWS] = [
-    3, // ApertureOne
-    3, // ApertureTwo
-    3, // ByDMAAddress
-    3, // ByDMAStride
-    3, // ByDMAMemAddr
-    3, // ByDMASize
-    3, // ByDMAByteMask
-    3, // ByDMAControl
-    3, // ByDMAComplete
-    3, // Reboot
-    3, // MemControl
-    3, // BootAddress
-    3, // MemConfig
-    3, // BypassWriteMask
-    1, // FramebufferWriteMask
-    1, // Count
-    3, // ScreenBase
-    3, // ScreenStride
-    3, // HTotal
-    3, // HgEnd
-    3, // HbEnd
-    3, // HsStart
-    3, // HsEnd
-    3, // VTotal
-    3, // VbEnd
-    3, // VsStart
-    3, // VsEnd
-    3, // VideoControl
-    3, // InterruptLine
-    3, // DisplayData
-    3, // LineCount
-    3, // FifoControl
-    3, // ScreenBaseRight
-    3, // RDPixelMask
-    3, // RDCursorXLow
-    3, // RDCursorXHigh
-    3, // RDCursorYLow
-    3, // RDCursorYHigh
-    3, // CFGVendorId, CFGDeviceId
-    3, // CFGCommand, CFGStatus
-    3, // CFGRevisionId, CFGClassCode
-    3, // CFGCacheLine, CFGLatTimer, CFGHeaderType, CFGBist
-    3, // CFGBaseAddr0
-    3, // CFGBaseAddr1
-    3, // CFGBaseAddr2
-    3, // CFGCardBus
-    3, // CFGSubsystemVendorId, CFGSubsystemId
-    3, // CFGRomAddr
-    3, // CFGCapPtr
-    3, // CFGIntLine, CFGIntPin, CFGMinGrant, CFGMaxLat
-    3, // CFGCapID, CFGNextPtr, CFGAGPRev
-    3, // CFGAGPStatus
-    3, // CFGAGPCommand
-    3, // CFGIndirectAddress
-    3, // CFGIndirectData
-    3, // RDCursorControl
-    3, // RDColorMode
-    3, // RDModeControl
-    3, // RDPalettePage
-    3, // RDMiscControl
-    2, // RDPixelClockA1
-    2, // RDPixelClockA2
-    2, // RDPixelClockA3
-    2, // RDPixelClockB1
-    2, // RDPixelClockB2
-    2, // RDPixelClockB3
-    2, // RDPixelClockC1
-    2, // RDPixelClockC2
-    2, // RDPixelClockC3
-    3, // RDPixelClockStatus
-    2, // RDMemoryClock1
-    2, // RDMemoryClock2
-    2, // RDMemoryClock3
-    3, // RDMemoryClockStatus
-    3, // RDColorKeyControl
-    3, // RDOverlayKey
-    3, // RDRedKey
-    3, // RDGreenKey
-    3, // RDBlueKey
-];
+// The directions, a bit for each row: the rows that are read, and the rows that are written.
+const READS: [u32; 3] = [0xFFFFFFFF, 0xFFFFFFF, 0x7E20];
+
+const WRITES: [u32; 3] = [0xFFFF3FFF, 0xFFFFFFFF, 0x7FFF];
 
 // The bits that take a write's. The subsystem numbers have a rule of their own.
 const WRITABLE: [u32; ROWS] = [
@@ -191,87 +114,87 @@ const WRITABLE: [u32; ROWS] = [
     0xFF, // RDBlueKey
 ];
 
-// The bits that a write of one clears: two status bits.
-const CLEARS: [u32; ROWS] = [
-    0, // ApertureOne
-    0, // ApertureTwo
-    0, // ByDMAAddress
-    0, // ByDMAStride
-    0, // ByDMAMemAddr
-    0, // ByDMASize
-    0, // ByDMAByteMask
-    0, // ByDMAControl
+// The bits that a write may change: those that take its bits, and two status bits that a write of one clears. The subsystem numbers have a rule of their own.
+const MAY: [u32; ROWS] = [
+    0x3FB, // ApertureOne
+    0x3FB, // ApertureTwo
+    0xFFFFFFFF, // ByDMAAddress
+    0xFFFFFFFF, // ByDMAStride
+    0xFFFFFF, // ByDMAMemAddr
+    0xFFF0FFF, // ByDMASize
+    0xFFFFFFFF, // ByDMAByteMask
+    0x3FFFFFFF, // ByDMAControl
     0, // ByDMAComplete
     0, // Reboot
-    0, // MemControl
-    0, // BootAddress
-    0, // MemConfig
-    0, // BypassWriteMask
+    0x10, // MemControl
+    0x3FF, // BootAddress
+    0xFFFFE7FF, // MemConfig
+    0xFFFFFFFF, // BypassWriteMask
     0, // FramebufferWriteMask
     0, // Count
-    0, // ScreenBase
-    0, // ScreenStride
-    0, // HTotal
-    0, // HgEnd
-    0, // HbEnd
-    0, // HsStart
-    0, // HsEnd
-    0, // VTotal
-    0, // VbEnd
-    0, // VsStart
-    0, // VsEnd
-    0, // VideoControl
-    0, // InterruptLine
-    0, // DisplayData
+    0xFFFFF, // ScreenBase
+    0xFFFFF, // ScreenStride
+    0x7FF, // HTotal
+    0x7FF, // HgEnd
+    0x7FF, // HbEnd
+    0x7FF, // HsStart
+    0x7FF, // HsEnd
+    0x7FF, // VTotal
+    0x7FF, // VbEnd
+    0x7FF, // VsStart
+    0x7FF, // VsEnd
+    0x11E7F, // VideoControl
+    0x7FF, // InterruptLine
+    0xE30C, // DisplayData
     0, // LineCount
-    0, // FifoControl
-    0, // ScreenBaseRight
-    0, // RDPixelMask
-    0, // RDCursorXLow
-    0, // RDCursorXHigh
-    0, // RDCursorYLow
-    0, // RDCursorYHigh
+    0x1F1F, // FifoControl
+    0xFFFFF, // ScreenBaseRight
+    0xFF, // RDPixelMask
+    0xFF, // RDCursorXLow
+    0xFF, // RDCursorXHigh
+    0xFF, // RDCursorYLow
+    0xFF, // RDCursorYHigh
     0, // CFGVendorId, CFGDeviceId
-    0x30000000, // CFGCommand, CFGStatus
+    0x30000006, // CFGCommand, CFGStatus
     0, // CFGRevisionId, CFGClassCode
-    0, // CFGCacheLine, CFGLatTimer, CFGHeaderType, CFGBist
-    0, // CFGBaseAddr0
-    0, // CFGBaseAddr1
-    0, // CFGBaseAddr2
+    0xFF00, // CFGCacheLine, CFGLatTimer, CFGHeaderType, CFGBist
+    0xFFFE0000, // CFGBaseAddr0
+    0xFF800000, // CFGBaseAddr1
+    0xFF800000, // CFGBaseAddr2
     0, // CFGCardBus
     0, // CFGSubsystemVendorId, CFGSubsystemId
-    0, // CFGRomAddr
+    0xFFFF0001, // CFGRomAddr
     0, // CFGCapPtr
-    0, // CFGIntLine, CFGIntPin, CFGMinGrant, CFGMaxLat
+    0xFF, // CFGIntLine, CFGIntPin, CFGMinGrant, CFGMaxLat
     0, // CFGCapID, CFGNextPtr, CFGAGPRev
     0, // CFGAGPStatus
-    0, // CFGAGPCommand
-    0, // CFGIndirectAddress
-    0, // CFGIndirectData
-    0, // RDCursorControl
-    0, // RDColorMode
-    0, // RDModeControl
-    0, // RDPalettePage
-    0, // RDMiscControl
-    0, // RDPixelClockA1
-    0, // RDPixelClockA2
-    0, // RDPixelClockA3
-    0, // RDPixelClockB1
-    0, // RDPixelClockB2
-    0, // RDPixelClockB3
-    0, // RDPixelClockC1
-    0, // RDPixelClockC2
-    0, // RDPixelClockC3
+    0xFF000303, // CFGAGPCommand
+    0xE07FFFFF, // CFGIndirectAddress
+    0xFFFFFFFF, // CFGIndirectData
+    0x7F, // RDCursorControl
+    0xBF, // RDColorMode
+    7, // RDModeControl
+    0xFF, // RDPalettePage
+    0x3F, // RDMiscControl
+    0xFF, // RDPixelClockA1
+    0xFF, // RDPixelClockA2
+    0xB, // RDPixelClockA3
+    0xFF, // RDPixelClockB1
+    0xFF, // RDPixelClockB2
+    0xB, // RDPixelClockB3
+    0xFF, // RDPixelClockC1
+    0xFF, // RDPixelClockC2
+    0xB, // RDPixelClockC3
     0, // RDPixelClockStatus
-    0, // RDMemoryClock1
-    0, // RDMemoryClock2
-    0, // RDMemoryClock3
+    0xFF, // RDMemoryClock1
+    0xFF, // RDMemoryClock2
+    3, // RDMemoryClock3
     0, // RDMemoryClockStatus
-    0, // RDColorKeyControl
-    0, // RDOverlayKey
-    0, // RDRedKey
-    0, // RDGreenKey
-    0, // RDBlueKey
+    0x1F, // RDColorKeyControl
+    0xFF, // RDOverlayKey
+    0xFF, // RDRedKey
+    0xFF, // RDGreenKey
+    0xFF, // RDBlueKey
 ];
 
 // The values at reset.
@@ -440,17 +363,24 @@ const KNOWNS: [u32; ROWS] = [
     0xFF, // RDBlueKey
 ];
 
+// Whether a set of rows has row i.
+fn in_set(set: &[u32; 3], i: usize) -> bool
+    ensures { λ r. ⌜ r ≡ inSet (now (set .entry)) i ⌝ }
+{
+    bit_of((i % 32) as u32, word_of(set, i / 32))
+}
+
 // Whether a register is read, and whether it is written; neither past the bank's end.
 pub fn row_reads(i: usize) -> bool
     ensures { λ r. ⌜ r ≡ bankRow i .reads ⌝ }
 {
-    bit_of(0, word_of(&WAYS, i))
+    in_set(&READS, i)
 }
 
 pub fn row_writes(i: usize) -> bool
     ensures { λ r. ⌜ r ≡ bankRow i .writes ⌝ }
 {
-    bit_of(1, word_of(&WAYS, i))
+    in_set(&WRITES, i)
 }
 
 pub fn row_writable(i: usize) -> u32
@@ -459,10 +389,14 @@ pub fn row_writable(i: usize) -> u32
     word_of(&WRITABLE, i)
 }
 
+// The bits that a write of one clears: two of CFGStatus.
 fn row_clears(i: usize) -> u32
     ensures { λ r. ⌜ r ≡ bankRow i .clears ⌝ }
 {
-    word_of(&CLEARS, i)
+    if i == COMMAND {
+        return 0x30000000;
+    }
+    0
 }
 
 // The bits that a write of word with enables e stores.
@@ -499,9 +433,15 @@ pub fn fixed_after(once: u32, i: usize, e: u32) -> u32
 pub fn bank_sound<'a>(once: u32, values: &'a [u32; ROWS], knowns: &'a [u32; ROWS]) -> bool
     ensures { λ r. ⌜ r ≡ bankSound once (now (values .entry)) (now (knowns .entry)) ⌝ }
 {
-    let mut clears = CLEARS;
-    clears[SUBSYSTEM] = half_bits(once);
-    columns_sound(values, knowns, &WRITABLE, &clears, &RESETS, &KNOWNS)
+    columns_sound(
+        values,
+        knowns,
+        &MAY,
+        &RESETS,
+        &KNOWNS,
+        SUBSYSTEM,
+        half_bits(once),
+    )
 }
 
 pub fn bank_resets() -> [u32; ROWS]
@@ -523,21 +463,30 @@ pub fn held(column: &[u32; ROWS], i: usize) -> u32
     word_of(column, i)
 }
 
-// The state after a write of register i. Past the bank's end nothing is stored.
-pub fn with_row(s: State, i: usize, a: Access) -> State
-    ensures { λ r. ⌜ r ≡ applied (rowPatch s i a) s ⌝ }
+// A write of register i, in place: these bits of it take the word's, and become known. Past the bank's end nothing is stored.
+pub fn write_row(
+    once: &mut u32,
+    values: &mut [u32; ROWS],
+    knowns: &mut [u32; ROWS],
+    i: usize,
+    a: Access,
+)
+    ensures { λ r. ⌜ RowWritten (now (once .entry)) (now (values .entry)) (now (knowns .entry)) i a (now (once .exit)) (now (values .exit)) (now (knowns .exit)) ⌝ }
 {
-    let fixed = fixed_after(s.once, i, a.enables);
-    let bits = stored_bits(s.once, i, a.enables, a.word);
+    let o = *once;
+    let bits = stored_bits(o, i, a.enables, a.word);
     let word = brought_word(i, a.word);
-    let mut n = s;
-    n.once = fixed;
-    if ROWS <= i {
-        return n;
-    }
-    let v = bits_merged(s.values[i], word, bits);
-    let k = bits_joined(s.knowns[i], bits);
-    n.values[i] = v;
-    n.knowns[i] = k;
-    n
+    let v = bits_merged(held(values, i), word, bits);
+    let k = bits_joined(held(knowns, i), bits);
+    put_word(values, i, v);
+    put_word(knowns, i, k);
+    *once = fixed_after(o, i, a.enables);
+}
+
+// The bank at reset.
+pub fn reset_bank(values: &mut [u32; ROWS], knowns: &mut [u32; ROWS])
+    ensures { λ r. ⌜ BankReset (now (values .exit)) (now (knowns .exit)) ⌝ }
+{
+    *values = RESETS;
+    *knowns = KNOWNS;
 }

@@ -20,7 +20,7 @@ pub(crate) fn open_shown(width: u32, height: u32, memory: &mut [u8], picture: &m
     s
 }
 
-fn ask_read(s: State, a: Access, memory: &[u8], picture: &[u32]) -> State {
+fn ask_read<'a>(s: State, a: Access, memory: &'a [u8], picture: &'a [u32]) -> State {
     let r = model::read::read(s, a.target, a.offset, a.enables, memory, picture);
     say_answer(r.status, r.word, r.known, r.changed);
     let t = r.state;
@@ -34,9 +34,9 @@ fn ask_write(s: State, a: Access, memory: &mut [u8], picture: &mut [u32]) -> Sta
     t
 }
 
-fn ask_look(s: State, a: Access, memory: &[u8], picture: &[u32]) {
+fn ask_look<'a>(s: State, a: Access, memory: &'a [u8], picture: &'a [u32]) {
     let r = model::look::look(s, a.target, a.offset, a.enables, memory, picture);
-    say_answer(r.status, r.word, r.known, r.changed);
+    say_answer(r.status, r.word, r.known, 0);
 }
 
 pub(crate) fn ask(s: State, a: Access, memory: &mut [u8], picture: &mut [u32]) -> State {

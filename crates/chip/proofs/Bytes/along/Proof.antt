@@ -1,6 +1,5 @@
 -- `chip::Bytes::along` is the sum of the place and the number of bytes. Assumes nothing.
 use borrow.Author.Needs.{needs}
-use borrow.Author.Needs.{needs}
 use Rattle.chip.proofs.Bytes.along.Statement.{statement}
 use Rattle.chip.proofs.Bytes.along.Tie as tie
 

@@ -4,7 +4,6 @@ use mathlib.Core.Path.{_≡_, ap}
 use native.Mathlib.Omega.{arith}
 use borrow.Author.Needs.{needs}
 use Rattle.chip.specs.Units.{atByte}
-use borrow.Author.Needs.{needs}
 use Rattle.chip.proofs.Bytes.since.Statement.{statement}
 use Rattle.chip.proofs.Bytes.since.Tie as tie
 

@@ -3,7 +3,6 @@ use Prim.Native.Nat.{_*_, _≤_}
 use native.Mathlib.Nat.{mul-le-mul}
 use native.Mathlib.Omega.{arith}
 use borrow.Author.Needs.{needs}
-use borrow.Author.Needs.{needs}
 use Rattle.chip.proofs.Units.times.Statement.{statement}
 use Rattle.chip.proofs.Units.times.Tie as tie
 

@@ -1,7 +1,6 @@
--- `model::seen::palette_wide` is bit 1 of RDMiscControl. Assumes nothing.
+-- `model::seen::palette_wide` is the bit. Assumes nothing.
 use mathlib.Core.Path.{ap, _∙_}
 use Rattle.bits.specs.Bit.{bit}
-use Rattle.chip.specs.Port.{wide}
 use borrow.Author.Needs.{needs}
 use Rattle.model.proofs.seen.palette_wide.Statement.{statement}
 use Rattle.model.proofs.seen.palette_wide.Tie as tie
@@ -13,7 +12,6 @@ bit-of-requires : tie.Need-bit-of-requires
 bit-of-requires c κs = search needs
 
 returns : tie.Need-returns
-unfolding wide
 returns c = c .bit-of .ensures ∙ ap (bit 1) (c .before .held .ensures)
 
 pub palette-wide-spec : {M : Type 1} → statement M

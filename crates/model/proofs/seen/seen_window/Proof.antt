@@ -1,6 +1,4 @@
--- `model::seen::seen_window` is what a read through an aperture sees. Assumes nothing.
-use denote.Ref.{now}
-use Rattle.model.proofs.SeenLaws.{sees-window}
+-- `model::seen::seen_window` is the word of the lanes, all known. Assumes nothing.
 use borrow.Author.Needs.{needs}
 use Rattle.model.proofs.seen.seen_window.Statement.{statement}
 use Rattle.model.proofs.seen.seen_window.Tie as tie
@@ -12,7 +10,7 @@ word-from-requires : tie.Need-word-from-requires
 word-from-requires c κs = search needs
 
 returns : tie.Need-returns
-returns c = sees-window _ (c .before .before .before .before .before .args .a) (now (c .before .before .before .before .before .args .memory)) _ _ _ (c .before .held .ensures) (c .word-from .ensures)
+returns c = rw (← c .before .held .ensures, c .word-from .ensures)
 
 pub seen-window-spec : {M : Type 1} → statement M
 seen-window-spec = tie.close (tie.spec held-requires word-from-requires returns)

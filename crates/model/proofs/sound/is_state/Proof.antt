@@ -17,7 +17,7 @@ palette-sound-requires : tie.Need-palette-sound-requires
 palette-sound-requires c κs = search needs
 
 returns : tie.Need-returns
-returns c = all-tests _ _ _ _ _ (c .before .before .before .before .before .before .before .before .before .sizes-ok .ensures) (c .before .before .before .before .before .before .before .dac-sound .ensures) (c .before .before .before .bank-sound .ensures) (c .palette-sound .ensures)
+returns c = all-tests _ _ _ _ _ (c .before .before .before .sizes-ok .ensures) (c .before .before .dac-sound .ensures) (c .before .bank-sound .ensures) (c .palette-sound .ensures)
 
 pub is-state-spec : {M : Type 1} → statement M
 is-state-spec =

@@ -15,22 +15,22 @@ row-writes-requires c κs = search needs
 
 returns : tie.Need-returns
 unfolding portAt isWrite
-returns c = no-line _ _ refl (way-yes _ _ _ _ _ (c .before .before .before .is-write .ensures) (c .before .before .if1 .taken) (c .before .row-writes .ensures) ∙ c .if2 .taken) refl
+returns c = λ w h f o vs ks p d. no-line _ _ refl (way-yes _ _ _ _ _ (c .before .before .before .is-write .ensures) (c .before .before .if1 .taken) (c .before .row-writes .ensures) ∙ c .if2 .taken) refl
 
 returns-2 : tie.Need-returns-2
 unfolding portAt isWrite
-returns-2 c = line-six _ _ refl (way-yes _ _ _ _ _ (c .before .before .before .is-write .ensures) (c .before .before .if1 .taken) (c .before .row-writes .ensures) ∙ c .if2 .left)
+returns-2 c = λ w h f o vs ks p d. line-six _ _ refl (way-yes _ _ _ _ _ (c .before .before .before .is-write .ensures) (c .before .before .if1 .taken) (c .before .row-writes .ensures) ∙ c .if2 .left)
 
 row-reads-requires : tie.Need-row-reads-requires
 row-reads-requires c κs = search needs
 
 returns-3 : tie.Need-returns-3
 unfolding portAt isWrite
-returns-3 c = no-line _ _ refl (way-no _ _ _ _ _ (c .before .before .before .is-write .ensures) (c .before .before .if1 .left) (c .before .row-reads .ensures) ∙ c .if3 .taken) refl
+returns-3 c = λ w h f o vs ks p d. no-line _ _ refl (way-no _ _ _ _ _ (c .before .before .before .is-write .ensures) (c .before .before .if1 .left) (c .before .row-reads .ensures) ∙ c .if3 .taken) refl
 
 returns-4 : tie.Need-returns-4
 unfolding portAt isWrite
-returns-4 c = line-six _ _ refl (way-no _ _ _ _ _ (c .before .before .before .is-write .ensures) (c .before .before .if1 .left) (c .before .row-reads .ensures) ∙ c .if3 .left)
+returns-4 c = λ w h f o vs ks p d. line-six _ _ refl (way-no _ _ _ _ _ (c .before .before .before .is-write .ensures) (c .before .before .if1 .left) (c .before .row-reads .ensures) ∙ c .if3 .left)
 
 pub register-status-spec : {M : Type 1} → statement M
 register-status-spec =

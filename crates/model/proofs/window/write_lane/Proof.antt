@@ -1,5 +1,4 @@
--- `model::window::write_lane` stores one lane and draws what shows it.
--- The two branches. Assumes nothing.
+-- `model::window::write_lane` stores the lane's byte and redraws its dots, where the lane is enabled. Assumes nothing.
 use mathlib.Core.Path.{ap}
 use Rattle.chip.specs.declared.Bytes.{Bytes}
 use Rattle.model.proofs.WindowLaws.{lane-yes, lane-no}
@@ -26,10 +25,10 @@ same-length-2 : tie.Need-same-length-2
 same-length-2 c = search needs
 
 returns : tie.Need-returns
-returns c = lane-yes _ _ _ _ _ _ _ (c .before .before .before .before .before .before .before .before .before .before .bit-of .ensures) _ _ _ _ _ (c .before .before .before .before .before .before .before .before .before .if1 .taken) (ap (λ (x : Bytes). x .0) (c .before .before .before .before .before .before .before .before .lane-place .ensures)) (c .before .before .before .before .before .lane-byte .ensures) (c .before .before .before .before .before .before .before .before .before .before .before .before .before .pre) (c .before .before .before .before .poke .ensures)
+returns c = lane-yes _ _ _ _ _ _ _ _ (c .before .before .before .before .before .before .before .before .before .before .bit-of .ensures) _ _ _ _ _ (c .before .before .before .before .before .before .before .before .before .if1 .taken) (ap (λ (x : Bytes). x .0) (c .before .before .before .before .before .before .before .before .lane-place .ensures)) (c .before .before .before .before .before .lane-byte .ensures) (c .before .before .before .before .poke .ensures)
 
 returns-2 : tie.Need-returns-2
-returns-2 c = lane-no _ _ _ _ _ _ _ (c .before .bit-of .ensures) (c .if1 .left)
+returns-2 c = lane-no _ _ _ _ _ _ _ _ (c .before .bit-of .ensures) (c .if1 .left)
 
 pub write-lane-spec : {M : Type 1} → statement M
 write-lane-spec =

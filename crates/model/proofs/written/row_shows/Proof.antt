@@ -1,6 +1,6 @@
 -- `model::written::row_shows` is the definition, row by row. Assumes nothing.
 use Rattle.model.specs.Parts.{rowShows}
-use Rattle.model.proofs.WriteLaws.{shows-last}
+use Rattle.model.proofs.QuietLaws.{shows-last}
 use Rattle.model.proofs.written.row_shows.Statement.{statement}
 use Rattle.model.proofs.written.row_shows.Tie as tie
 

@@ -1,5 +1,5 @@
 -- `picture::row::both_row` redraws the dots of a row.
--- Inside memory in both layouts dot by dot (RowLaws.Along), past its end by `draw_row` (EntryLaws). Assumes nothing.
+-- Inside memory in both layouts dot by dot (RowLaws.Along), past its end by `rest_row` (EntryLaws). Assumes nothing.
 use Prim.Native.Nat.{_-_}
 use mathlib.Core.Path.{refl}
 use native.Mathlib.Omega.{arith}
@@ -83,17 +83,17 @@ loop-again c = along-more _ _ _ _ _ _ _ _ (c .before .before .before .before .be
 rest-of-requires : tie.Need-rest-of-requires Inv-loop μ-loop
 rest-of-requires c κs = record { within = omega (arith, c .before .before .before .inside .ensures .narrow, c .before .before .before .inside .ensures .fitted, c .before .before .inside2 .ensures .narrow, c .before .before .inside2 .ensures .fitted, c .before .before .before .before .before .before .pre .room, c .before .before .before .before .before .before .pre .narrow, c .before .before .before .before .before .before .pre .old, c .before .before .before .before .before .before .pre .new); narrow = c .before .before .before .before .before .before .pre .narrow; old = omega (arith, c .before .before .before .inside .ensures .narrow, c .before .before .before .inside .ensures .fitted, c .before .before .inside2 .ensures .narrow, c .before .before .inside2 .ensures .fitted, c .before .before .before .before .before .before .pre .room, c .before .before .before .before .before .before .pre .narrow, c .before .before .before .before .before .before .pre .old, c .before .before .before .before .before .before .pre .new); new = omega (arith, c .before .before .before .inside .ensures .narrow, c .before .before .before .inside .ensures .fitted, c .before .before .inside2 .ensures .narrow, c .before .before .inside2 .ensures .fitted, c .before .before .before .before .before .before .pre .room, c .before .before .before .before .before .before .pre .narrow, c .before .before .before .before .before .before .pre .old, c .before .before .before .before .before .before .pre .new); first = omega (arith, c .before .before .before .inside .ensures .narrow, c .before .before .before .inside .ensures .fitted, c .before .before .inside2 .ensures .narrow, c .before .before .inside2 .ensures .fitted, c .before .before .before .before .before .before .pre .room, c .before .before .before .before .before .before .pre .narrow, c .before .before .before .before .before .before .pre .old, c .before .before .before .before .before .before .pre .new) }
 
-draw-row-requires : tie.Need-draw-row-requires Inv-loop μ-loop
-draw-row-requires c κs = rw (c .before .rest-of .ensures) (record { room = omega (arith, c .before .before .before .before .before .inside .ensures .narrow, c .before .before .before .before .before .inside .ensures .fitted, c .before .before .before .before .inside2 .ensures .narrow, c .before .before .before .before .inside2 .ensures .fitted, c .before .before .before .before .before .before .before .before .pre .room, c .before .before .before .before .before .before .before .before .pre .narrow, c .before .before .before .before .before .before .before .before .pre .old, c .before .before .before .before .before .before .before .before .pre .new, c .before .before .before .loop .inv .part .size); narrow = omega (arith, c .before .before .before .before .before .inside .ensures .narrow, c .before .before .before .before .before .inside .ensures .fitted, c .before .before .before .before .inside2 .ensures .narrow, c .before .before .before .before .inside2 .ensures .fitted, c .before .before .before .before .before .before .before .before .pre .room, c .before .before .before .before .before .before .before .before .pre .narrow, c .before .before .before .before .before .before .before .before .pre .old, c .before .before .before .before .before .before .before .before .pre .new); old = omega (arith, c .before .before .before .before .before .inside .ensures .narrow, c .before .before .before .before .before .inside .ensures .fitted, c .before .before .before .before .inside2 .ensures .narrow, c .before .before .before .before .inside2 .ensures .fitted, c .before .before .before .before .before .before .before .before .pre .room, c .before .before .before .before .before .before .before .before .pre .narrow, c .before .before .before .before .before .before .before .before .pre .old, c .before .before .before .before .before .before .before .before .pre .new); new = omega (arith, c .before .before .before .before .before .inside .ensures .narrow, c .before .before .before .before .before .inside .ensures .fitted, c .before .before .before .before .inside2 .ensures .narrow, c .before .before .before .before .inside2 .ensures .fitted, c .before .before .before .before .before .before .before .before .pre .room, c .before .before .before .before .before .before .before .before .pre .narrow, c .before .before .before .before .before .before .before .before .pre .old, c .before .before .before .before .before .before .before .before .pre .new) })
+rest-row-requires : tie.Need-rest-row-requires Inv-loop μ-loop
+rest-row-requires c κs = rw (c .before .rest-of .ensures) (record { room = omega (arith, c .before .before .before .before .before .inside .ensures .narrow, c .before .before .before .before .before .inside .ensures .fitted, c .before .before .before .before .inside2 .ensures .narrow, c .before .before .before .before .inside2 .ensures .fitted, c .before .before .before .before .before .before .before .before .pre .room, c .before .before .before .before .before .before .before .before .pre .narrow, c .before .before .before .before .before .before .before .before .pre .old, c .before .before .before .before .before .before .before .before .pre .new, c .before .before .before .loop .inv .part .size); narrow = omega (arith, c .before .before .before .before .before .inside .ensures .narrow, c .before .before .before .before .before .inside .ensures .fitted, c .before .before .before .before .inside2 .ensures .narrow, c .before .before .before .before .inside2 .ensures .fitted, c .before .before .before .before .before .before .before .before .pre .room, c .before .before .before .before .before .before .before .before .pre .narrow, c .before .before .before .before .before .before .before .before .pre .old, c .before .before .before .before .before .before .before .before .pre .new); old = omega (arith, c .before .before .before .before .before .inside .ensures .narrow, c .before .before .before .before .before .inside .ensures .fitted, c .before .before .before .before .inside2 .ensures .narrow, c .before .before .before .before .inside2 .ensures .fitted, c .before .before .before .before .before .before .before .before .pre .room, c .before .before .before .before .before .before .before .before .pre .narrow, c .before .before .before .before .before .before .before .before .pre .old, c .before .before .before .before .before .before .before .before .pre .new); new = omega (arith, c .before .before .before .before .before .inside .ensures .narrow, c .before .before .before .before .before .inside .ensures .fitted, c .before .before .before .before .inside2 .ensures .narrow, c .before .before .before .before .inside2 .ensures .fitted, c .before .before .before .before .before .before .before .before .pre .room, c .before .before .before .before .before .before .before .before .pre .narrow, c .before .before .before .before .before .before .before .before .pre .old, c .before .before .before .before .before .before .before .before .pre .new) })
 
 add-result : tie.Need-add-result Inv-loop μ-loop
-add-result c = let w = rw (c .before .before .before .before .rest-of .ensures) at (c .before .before .draw-row .ensures .few) in omega (arith, c .before .before .before .before .before .before .before .before .inside .ensures .narrow, c .before .before .before .before .before .before .before .inside2 .ensures .narrow, c .before .before .before .before .before .before .before .before .before .before .before .pre .narrow, c .before .before .before .before .before .before .loop .inv .few, c .before .before .before .before .before .before .loop .inv .col)
+add-result c = let w = rw (c .before .before .before .before .rest-of .ensures) at (c .before .before .rest-row .ensures .few) in omega (arith, c .before .before .before .before .before .before .before .before .inside .ensures .narrow, c .before .before .before .before .before .before .before .inside2 .ensures .narrow, c .before .before .before .before .before .before .before .before .before .before .before .pre .narrow, c .before .before .before .before .before .before .loop .inv .few, c .before .before .before .before .before .before .loop .inv .col)
 
 same-length : tie.Need-same-length Inv-loop μ-loop
 same-length c = search needs
 
 returns : tie.Need-returns Inv-loop μ-loop
-returns c = both-end (c .before .before .before .before .before .before .before .before .before .before .before .args .row) _ _ _ _ _ _ _ _ _ _ (omega (arith, c .before .before .before .before .before .before .before .before .inside .ensures .narrow, c .before .before .before .before .before .before .before .before .inside .ensures .fitted, c .before .before .before .before .before .before .before .inside2 .ensures .narrow, c .before .before .before .before .before .before .before .inside2 .ensures .fitted, c .before .before .before .before .before .before .before .before .before .before .before .pre .room, c .before .before .before .before .before .before .before .before .before .before .before .pre .narrow, c .before .before .before .before .before .before .before .before .before .before .before .pre .old, c .before .before .before .before .before .before .before .before .before .before .before .pre .new)) (c .before .before .before .before .before .loop-test .left) (omega (arith, c .before .before .before .before .before .before .before .before .inside .ensures .narrow, c .before .before .before .before .before .before .before .inside2 .ensures .narrow, c .before .before .before .before .before .before .before .before .before .before .before .pre .narrow, c .before .before .before .before .before .before .before .before .before .before .before .pre .old, c .before .before .before .before .before .before .before .before .before .before .before .pre .new)) (omega (arith, c .before .before .before .before .before .before .before .before .inside .ensures .narrow, c .before .before .before .before .before .before .before .inside2 .ensures .narrow, c .before .before .before .before .before .before .before .before .before .before .before .pre .narrow, c .before .before .before .before .before .before .before .before .before .before .before .pre .old, c .before .before .before .before .before .before .before .before .before .before .before .pre .new)) (c .before .before .before .before .before .before .loop .inv) (rw (c .before .before .before .before .rest-of .ensures) at (c .before .before .draw-row .ensures))
+returns c = both-end (c .before .before .before .before .before .before .before .before .before .before .before .args .row) _ _ _ _ _ _ _ _ _ _ (omega (arith, c .before .before .before .before .before .before .before .before .inside .ensures .narrow, c .before .before .before .before .before .before .before .before .inside .ensures .fitted, c .before .before .before .before .before .before .before .inside2 .ensures .narrow, c .before .before .before .before .before .before .before .inside2 .ensures .fitted, c .before .before .before .before .before .before .before .before .before .before .before .pre .room, c .before .before .before .before .before .before .before .before .before .before .before .pre .narrow, c .before .before .before .before .before .before .before .before .before .before .before .pre .old, c .before .before .before .before .before .before .before .before .before .before .before .pre .new)) (c .before .before .before .before .before .loop-test .left) (omega (arith, c .before .before .before .before .before .before .before .before .inside .ensures .narrow, c .before .before .before .before .before .before .before .inside2 .ensures .narrow, c .before .before .before .before .before .before .before .before .before .before .before .pre .narrow, c .before .before .before .before .before .before .before .before .before .before .before .pre .old, c .before .before .before .before .before .before .before .before .before .before .before .pre .new)) (omega (arith, c .before .before .before .before .before .before .before .before .inside .ensures .narrow, c .before .before .before .before .before .before .before .inside2 .ensures .narrow, c .before .before .before .before .before .before .before .before .before .before .before .pre .narrow, c .before .before .before .before .before .before .before .before .before .before .before .pre .old, c .before .before .before .before .before .before .before .before .before .before .before .pre .new)) (c .before .before .before .before .before .before .loop .inv) (rw (c .before .before .before .before .rest-of .ensures) at (c .before .before .rest-row .ensures))
 
 pub both-row-spec : {M : Type 1} → statement M
 both-row-spec =
@@ -123,7 +123,7 @@ both-row-spec =
     loop-less
     loop-again
     rest-of-requires
-    draw-row-requires
+    rest-row-requires
     add-result
     same-length
     returns)

@@ -1,6 +1,5 @@
 -- `picture::row::rest_of` is the definition, field by field. Assumes nothing.
 use borrow.Author.Needs.{needs}
-use borrow.Author.Needs.{needs}
 use Rattle.picture.proofs.row.rest_of.Statement.{statement}
 use Rattle.picture.proofs.row.rest_of.Tie as tie
 

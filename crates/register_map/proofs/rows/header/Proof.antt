@@ -1,25 +1,28 @@
 -- `register_map::rows::header` ends: it counts up to 64.
 -- Assumes nothing.
+use borrow.Author.Needs.{needs}
 use Prim.Native.Nat.{_-_, _≤_}
 use native.Mathlib.Omega.{arith}
-use borrow.Author.Needs.{needs}
 use Rattle.register_map.proofs.rows.header.Statement.{statement}
 use Rattle.register_map.proofs.rows.header.Tie as tie
 
 abbrev Inv-loop : tie.InvT-loop
-Inv-loop k₀ k = k ≤ 64
+Inv-loop table k₀ k = k ≤ 64
 
 abbrev μ-loop : tie.MeasureT-loop
-μ-loop k₀ k = 64 - k
+μ-loop table k₀ k = 64 - k
 
-slice-aggregate-say : tie.Need-slice-aggregate-say Inv-loop μ-loop
-slice-aggregate-say c = search needs
-
-say-requires : tie.Need-say-requires Inv-loop μ-loop
-say-requires c κs = search needs
+header-title-requires : tie.Need-header-title-requires Inv-loop μ-loop
+header-title-requires c κs = search needs
 
 loop-holds : tie.Need-loop-holds Inv-loop μ-loop
 loop-holds c = omega arith
+
+mul-header-line : tie.Need-mul-header-line Inv-loop μ-loop
+mul-header-line c = omega arith
+
+header-line-requires : tie.Need-header-line-requires Inv-loop μ-loop
+header-line-requires c κs = search needs
 
 mul-header-row : tie.Need-mul-header-row Inv-loop μ-loop
 mul-header-row c = omega arith
@@ -45,9 +48,10 @@ header-spec =
     (tie.spec
     Inv-loop
     μ-loop
-    slice-aggregate-say
-    say-requires
+    header-title-requires
     loop-holds
+    mul-header-line
+    header-line-requires
     mul-header-row
     header-row-requires
     add-k

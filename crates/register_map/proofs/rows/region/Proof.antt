@@ -1,25 +1,28 @@
 -- `register_map::rows::region` ends: it counts up to 16384.
 -- Assumes nothing.
+use borrow.Author.Needs.{needs}
 use Prim.Native.Nat.{_-_, _≤_}
 use native.Mathlib.Omega.{arith}
-use borrow.Author.Needs.{needs}
 use Rattle.register_map.proofs.rows.region.Statement.{statement}
 use Rattle.register_map.proofs.rows.region.Tie as tie
 
 abbrev Inv-loop : tie.InvT-loop
-Inv-loop k₀ k = k ≤ 16384
+Inv-loop table k₀ k = k ≤ 16384
 
 abbrev μ-loop : tie.MeasureT-loop
-μ-loop k₀ k = 16384 - k
+μ-loop table k₀ k = 16384 - k
 
-slice-aggregate-say : tie.Need-slice-aggregate-say Inv-loop μ-loop
-slice-aggregate-say c = search needs
-
-say-requires : tie.Need-say-requires Inv-loop μ-loop
-say-requires c κs = search needs
+region-title-requires : tie.Need-region-title-requires Inv-loop μ-loop
+region-title-requires c κs = search needs
 
 loop-holds : tie.Need-loop-holds Inv-loop μ-loop
 loop-holds c = omega arith
+
+mul-region-line : tie.Need-mul-region-line Inv-loop μ-loop
+mul-region-line c = omega arith
+
+region-line-requires : tie.Need-region-line-requires Inv-loop μ-loop
+region-line-requires c κs = search needs
 
 mul-region-place : tie.Need-mul-region-place Inv-loop μ-loop
 mul-region-place c = omega arith
@@ -45,9 +48,10 @@ region-spec =
     (tie.spec
     Inv-loop
     μ-loop
-    slice-aggregate-say
-    say-requires
+    region-title-requires
     loop-holds
+    mul-region-line
+    region-line-requires
     mul-region-place
     region-place-requires
     add-k

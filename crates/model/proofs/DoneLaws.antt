@@ -1,7 +1,7 @@
 -- From what is done at a place to what the definition of an access gives: reads, writes, looks, refusals, without refusal 1 and with it.
 -- The definitions opened one after the other; reads and looks draw nothing (QuietLaws). Assumes nothing.
 use Prim.Native.Nat.{ℕ, _*_}
-use mathlib.Core.Bool.{Bool, true, false, _&&_}
+use mathlib.Core.Bool.{Bool, true, false}
 use mathlib.Core.List.{List}
 use mathlib.Core.Path.{_≡_, refl, sym, ap, ap₂, _∙_, subst}
 use borrow.Author.Tests.{eq-eqb, ne-eqb}
@@ -11,6 +11,7 @@ use Rattle.bits.specs.Choose.{pick}
 use Rattle.bits.specs.Word.{lanesOf}
 use Rattle.bits.proofs.Cases.{byTest}
 use Rattle.bits.proofs.Words.{inside-zero}
+use Rattle.bits.proofs.Bools.{and-true}
 use Rattle.chip.specs.declared.State.{State}
 use Rattle.chip.specs.declared.Access.{Access}
 use Rattle.chip.specs.declared.Answer.{Answer}
@@ -139,14 +140,10 @@ module _ (s : State) (m l : List ℕ) (a : Access) (p : Place) (n : ℕ) (f : Fo
   pub surely-write : (r : ℕ) (s′ : State) (m′ l′ : List ℕ) → n ≡ 0 → a .kind ≡ Write → Puts s a p m l r s′ m′ l′ → Gives (surelyOf s m l a) (answered 0 0 0 r s′) m′ l′
   surely-write r s′ m′ l′ h e x =
       let z : length l ≡ s .width * s .height = lent-size s (length m) (length l) a (sym en ∙ h) in
-      let t : panelFits s (length l) ≡ panelOk (s .width) (s .height) = simp (eq-eqb (length l) (s .width * s .height) z, eq-eqb (s .width) (s .width) refl) (and-one (panelOk (s .width) (s .height))) in
+      let t : panelFits s (length l) ≡ panelOk (s .width) (s .height) = simp (eq-eqb (length l) (s .width * s .height) z, eq-eqb (s .width) (s .width) refl) (and-true (panelOk (s .width) (s .height))) in
       surely-done s′ m′ 0 0 r l′ h
       (done-write s m l a p (f .place) m′ e (sym (x .memory)) ∙ ap (λ (y : State). settled s m l y m′ 0 0) (sym (x .state)))
       (subst (λ (b : Bool). Redraws b (wordOf s m) (wordOf s′ m′) l r l′) t (x .drawn))
-    where
-      and-one : (b : Bool) → (b && true) ≡ b
-      and-one true = refl
-      and-one false = refl
 
 -- ---- with the test of the state
 

@@ -1,5 +1,7 @@
 // Memory through an aperture: which modes are served, which lane each memory byte exchanges with, and the word that a read gives.
 // An access's offset is the number that was handed in; a place is made of it at once, so that no sum of places wraps.
+#![tactic(auto)]
+
 ghost use Rattle.std.specs.Prelude.{◌≡◌, ◌+◌, ◌*◌, get_or};
 ghost use Rattle.chip.specs.Units.{at_byte};
 ghost use Rattle.chip.specs.Aperture.{swap_of, served, lane_of, byte_from, span, reaches_memory, read_lane, word_from};

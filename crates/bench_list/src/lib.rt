@@ -1,4 +1,6 @@
 // For bench/run, and no part of the library: a run over a list of accesses after one test of the state, and a read and a write by value.
+#![tactic(auto)]
+
 ghost use Rattle.std.specs.Prelude.{◌≡◌, ◌+◌, ◌*◌, ◌<◌, ◌^◌, get_or, set};
 ghost use Rattle.chip.specs.Access.{reads, writes};
 ghost use Rattle.chip.specs.Parts.{state_of};

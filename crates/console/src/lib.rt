@@ -1,4 +1,6 @@
 // Standard input and output for the programs. Of the libraries this one alone rests on the contracts that the kit states for the C library.
+#![tactic(auto)]
+
 pub mod say; // say.rt: texts and numbers to standard output
 pub mod complain; // complain.rt: messages on standard error
 pub mod program; // program.rt: what every program begins and ends with

@@ -1,5 +1,7 @@
 // For the test of the C layout (tests/layout): each struct of include/reefstencil.h is made here from its parts, for C to read by its
 // names, and taken apart here into its parts, after C wrote it by its names.
+#![tactic(auto)]
+
 ghost use Rattle.std.specs.Prelude.{[], ◌∷◌, ◌≡◌};
 
 use chip::{Dac, ROWS, Reply, State, Wrote};

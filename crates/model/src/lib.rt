@@ -1,5 +1,7 @@
 // The model: an opening, and the three operations of 02, C-12: a read, a write and a look. In place the parts of a state are lent one by one, so that what a
 // function is not lent is not altered; by value a state goes in and a state comes out.
+#![tactic(auto)]
+
 pub mod sound; // sound.rt: what makes a state a state
 mod status; // status.rt: the refusals after 1, in their order
 mod seen; // seen.rt: what a read or a look sees

@@ -7,7 +7,7 @@ ghost use Rattle.palette.specs.Entry.{found_of};
 use chip::{Colour, Dac, Seen};
 
 // What a palette entry holds: nothing, where it was never stored, or a colour.
-#[derive(Drop)]
+#[derive(Clone, Copy)]
 pub enum Found {
     Never,
     Stored(Colour),

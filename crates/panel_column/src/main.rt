@@ -1,4 +1,6 @@
 // The panel program on a panel of one column.
+#![tactic(auto)]
+
 fn main() {
     console::panel::panel();
 }

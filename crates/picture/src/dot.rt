@@ -7,14 +7,14 @@ ghost use Rattle.picture.specs.Draw.{look_of, Put};
 use chip::Bytes;
 
 // Where a row's bytes start in a layout, and the layout's word past memory's end.
-#[derive(Drop)]
+#[derive(Clone, Copy)]
 pub(crate) struct Start {
     pub(crate) past: u32,
     pub(crate) at: Bytes,
 }
 
 // A row of the panel in the old layout and in the new one, and its dots in the picture.
-#[derive(Drop)]
+#[derive(Clone, Copy)]
 pub(crate) struct Row {
     pub(crate) old: Start,
     pub(crate) new: Start,

@@ -1,4 +1,6 @@
 // The picture: dots' words by the rules, and the redraw of those that change and of no others.
+#![tactic(auto)]
+
 mod dot; // dot.rt: one dot's word, and one dot's store
 mod entry; // entry.rt: the dots that show one palette entry
 pub mod poke; // poke.rt: one byte of memory, and the dots that show it

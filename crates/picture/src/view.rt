@@ -12,14 +12,14 @@ ghost use Rattle.picture.specs.Layout.{layout_of};
 use chip::{COLOR_MODE, PIXEL_MASK, ROWS, SCREEN_BASE, SCREEN_STRIDE, Units};
 
 // The word of every dot, by rule 1 or 2, or each dot its own.
-#[derive(Drop)]
+#[derive(Clone, Copy)]
 pub enum Shown {
     All(u32),
     Each,
 }
 
 // Base and stride are ScreenBase and ScreenStride as the bank holds them: bits 0 to 19 count, in units of eight bytes. So every value is a view.
-#[derive(Drop)]
+#[derive(Clone, Copy)]
 pub struct View {
     pub shown: Shown,
     pub base: u32,
@@ -98,7 +98,7 @@ fn past_of(shown: Shown) -> u32
 }
 
 // What of a view the redraws read beside its table.
-#[derive(Drop)]
+#[derive(Clone, Copy)]
 pub(crate) struct Layout {
     pub(crate) past: u32,
     pub(crate) base: Units,

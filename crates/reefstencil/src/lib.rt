@@ -2,6 +2,8 @@
 // the header's inline functions take them from a struct. Each array is a plain pointer to its first element, with no length; a slice is a pointer and then its
 // length. Every number and every bit pattern that C hands in has a meaning. That its pointers are good, and that no two parts overlap, is C's part
 // (docs/TRUST.md).
+#![tactic(auto)]
+
 ghost use Rattle.std.specs.Prelude.{◌≡◌};
 ghost use Rattle.chip.specs.Access.{reads, writes, looks};
 ghost use Rattle.chip.specs.Parts.{state_of, replied, wrote, opened};

@@ -1,4 +1,6 @@
 // The whole register map, from the proved tables: the page docs/REGISTERS.md, and then the table of include/reefstencil.h.
+#![tactic(auto)]
+
 mod rows; // rows.rt: one register a row
 
 fn main() {

@@ -1,5 +1,7 @@
 // speed [counts]: how long 100,000 writes through an aperture take on a panel of 4 by 1 and on one of 1,024 by 1,024. Each write changes four
 // dots in both. With the word `counts` it leaves out the times, which vary, so that what it writes can be compared.
+#![tactic(auto)]
+
 use chip::State;
 use console::clock::microseconds;
 use console::complain::complain;

@@ -3,6 +3,8 @@
 //
 // An opening's line: panel, bytes of memory, words of picture -> status, and the panel and memory that the state records.
 // An access's line: r, w or l, target, offset, enables, for w a word -> status, word, known mask, changed count.
+#![tactic(auto)]
+
 mod say; // say.rt: a line for an opening, and one for an access
 mod cases; // cases.rt: openings and accesses on lent buffers
 mod limits; // limits.rt: width, height and memory

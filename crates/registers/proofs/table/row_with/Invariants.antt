@@ -1,0 +1,16 @@
+use Prim.Native.Nat.{ℕ, ◌≤◌, ◌<◌, ◌-◌}
+use mathlib.Core.Path.{◌≡◌, sym, ◌∙◌}
+use borrow.Author.Count.{below_none, below_more}
+use borrow.Author.Rules.{rules}
+use native.Mathlib.Omega.{arith}
+use native.Mathlib.Nat.{le_antisymm}
+use lib.ListN.{get_or, length}
+use Rattle.registers.specs.Columns.{first_row}
+use Rattle.registers.proofs.Searches.{first_hit, first_none}
+use Rattle.registers.proofs.table.row_with.Given as goal
+
+abbrev pub invariant-loop-i : goal.invariant-loop-i
+invariant-loop-i l = (l.i ≤ length l.table) × ((k : ℕ) → k < l.i → get_or l.table k 0 ≡ l.o → ⊥)
+
+abbrev pub decreases-loop-i : goal.decreases-loop-i
+decreases-loop-i l = length l.table - l.i

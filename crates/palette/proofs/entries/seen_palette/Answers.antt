@@ -8,9 +8,9 @@ use borrow.Author.Rules.{rules}
 use Rattle.palette.proofs.entries.seen_palette.Goals as goal
 
 pub returns-in-Never : goal.returns-in-Never
-returns-in-Never c = sees_never (entry_of c.args.p.now c.args.d.address) c.args.wide c.args.d.component (sym c.enum_told-1.is ∙ c.entry_of-f.ensures)
+returns-in-Never c = sees_never (entry_of c.args.p.now c.args.d.address) c.args.wide c.args.d.component (sym c.in-Never.is ∙ c.entry_of-f.ensures)
 
 pub returns-in-Stored : goal.returns-in-Stored
 returns-in-Stored c =
     ap (λ (n : ℕ). seen n 0xFF) (c.wide_of.ensures ∙ c.shown_as-shown.ensures ∙ ap (shown_as c.args.wide) c.part_of.ensures)
-    ∙ sees_part (entry_of c.args.p.now c.args.d.address) c.args.wide c.args.d.component _ (sym c.f-1.is ∙ c.entry_of-f.ensures)
+    ∙ sees_part (entry_of c.args.p.now c.args.d.address) c.args.wide c.args.d.component _ (sym c.in-Stored.is ∙ c.entry_of-f.ensures)

@@ -1,0 +1,13 @@
+use borrow.Author.Rules.{rules}
+use Prim.Native.Nat.{◌-◌}
+use native.Mathlib.Omega.{arith}
+use Rattle.chip.proofs.Sums.{in_bytes_is, plus_is}
+use Rattle.picture.specs.Entry.{laid_marks}
+use Rattle.picture.proofs.RowsLaws.{Drawing, drawing_start, drawing_old, drawing_room, drawing_few, drawing_first, drawing_end, marking_more}
+use Rattle.picture.proofs.entry.entry_rows.Given as goal
+
+abbrev pub invariant-loop-y : goal.invariant-loop-y
+invariant-loop-y l = Drawing (laid_marks l.l l.l.mask l.l.e l.l.memory l.l.a) (laid_marks l.l l.l.mask l.l.e l.l.memory l.l.b) l.l.base.0 l.l.stride.0 l.l.base.0 l.l.stride.0 l.l.width l.l.height l.l.initial.picture l.l.n l.u.0 l.u.0 l.l.first l.y l.l.picture
+
+abbrev pub decreases-loop-y : goal.decreases-loop-y
+decreases-loop-y l = l.l.height - l.y

@@ -1,0 +1,27 @@
+-- `picture::poke::poke` stores a byte and redraws the dots that show it.
+-- Past the end; two bytes of one word; a panel that does not fit; else by touch (PokeLaws). Assumes nothing.
+use mathlib.Core.Path.{sym, ◌∙◌}
+use native.Mathlib.Omega.{arith}
+use borrow.Author.Tests.{not-true, not-false}
+use Rattle.picture.proofs.FitLaws.{fit_size, laid_old, as_placed}
+use Rattle.picture.proofs.PokeLaws.{poked_out, poked_unfit, poked_same, poked}
+use borrow.Author.Rules.{rules}
+use Rattle.picture.proofs.poke.poke.Goals as goal
+
+pub returns-then-memory-k : goal.returns-then-memory-k
+returns-then-memory-k c = rw (sym c.index-k.ensures) (poked_out _ _ _ _ _ _ c.if-memory-k.true)
+
+pub bounds-memory-k : goal.bounds-memory-k
+bounds-memory-k c = c.if-memory-k.false
+
+pub returns-then-a-b : goal.returns-then-a-b
+returns-then-a-b c = rw (sym c.index-k.ensures) (poked_same _ _ _ _ _ _ _ _ c.if-memory-k.false c.byte_word-a.ensures c.byte_word-b.ensures c.if-a-b.true)
+
+pub returns-then-not-both_fit : goal.returns-then-not-both_fit
+returns-then-not-both_fit c = rw (sym c.index-k.ensures) (poked_unfit _ _ _ _ _ _ (sym c.both_fit.ensures ∙ not-true _ c.if-not-both_fit.true))
+
+pub touch-requires : goal.touch-requires
+touch-requires c = laid_old _ _ _ (sym c.both_fit.ensures ∙ not-false _ c.if-not-both_fit.false) _ c.layout_of.ensures
+
+pub returns : goal.returns
+returns c = rw (sym c.index-k.ensures) (let f = sym c.both_fit.ensures ∙ not-false _ c.if-not-both_fit.false in poked _ _ _ _ _ _ _ _ c.if-memory-k.false c.byte_word-a.ensures c.byte_word-b.ensures _ _ _ f (omega (arith, fit_size _ _ _ f)) (as_placed _ _ _ _ _ _ _ _ c.layout_of.ensures (rw (sym c.index-k.ensures) at c.touch.ensures)))

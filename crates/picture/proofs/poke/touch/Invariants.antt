@@ -1,0 +1,15 @@
+use native.Mathlib.Omega.{arith}
+use Rattle.picture.proofs.RowLaws.{put_one}
+use Rattle.picture.proofs.TouchLaws.{all_before, span_small, Touching, touching_none, touching_start, touching_turn, touching_more, touching_end}
+use Prim.Native.Nat.{ℕ, ◌+◌, ◌-◌}
+use mathlib.Core.Path.{sym, ap, ◌∙◌}
+use borrow.Author.Tests.{ltb-true, ltb-false}
+use Rattle.chip.proofs.Sums.{in_bytes_is, since_is, plus_is, times_is}
+use borrow.Author.Rules.{rules}
+use Rattle.picture.proofs.poke.touch.Given as goal
+
+abbrev pub invariant-loop-y : goal.invariant-loop-y
+invariant-loop-y l = Touching l.l.base.0 l.l.stride.0 l.l.width l.l.height l.l.at.0 l.l.a l.l.b l.l.from l.l.end l.l.initial.picture l.l.n l.u.0 l.l.first l.y l.l.picture
+
+abbrev pub decreases-loop-y : goal.decreases-loop-y
+decreases-loop-y l = l.l.end - l.y

@@ -1,0 +1,12 @@
+use Prim.Native.Nat.{◌-◌}
+use native.Mathlib.Omega.{arith}
+use Rattle.picture.specs.Row.{old_dots, new_dots}
+use Rattle.picture.proofs.RowLaws.{Along, along_start, along_more, along_end, put_one, look_along}
+use borrow.Author.Rules.{rules}
+use Rattle.picture.proofs.row.draw_row.Given as goal
+
+abbrev pub invariant-loop-x : goal.invariant-loop-x
+invariant-loop-x l = Along (old_dots l.row l.t0 l.memory) (new_dots l.row l.t1 l.memory) l.row.first l.width l.initial.picture l.n l.x l.picture
+
+abbrev pub decreases-loop-x : goal.decreases-loop-x
+decreases-loop-x l = l.width - l.x

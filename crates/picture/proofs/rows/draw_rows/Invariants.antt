@@ -1,0 +1,13 @@
+use Prim.Native.Nat.{◌-◌}
+use native.Mathlib.Omega.{arith}
+use Rattle.picture.specs.Layout.{laid_dots}
+use Rattle.picture.proofs.RowsLaws.{Drawing, drawing_start, drawing_old, drawing_new, drawing_room, drawing_few, drawing_first, drawing_more, drawing_end}
+use Rattle.chip.proofs.Sums.{in_bytes_is, plus_is}
+use borrow.Author.Rules.{rules}
+use Rattle.picture.proofs.rows.draw_rows.Given as goal
+
+abbrev pub invariant-loop-y : goal.invariant-loop-y
+invariant-loop-y l = Drawing (laid_dots l.old l.old.width l.t0 l.memory) (laid_dots l.new l.old.width l.t1 l.memory) l.old.base.0 l.old.stride.0 l.new.base.0 l.new.stride.0 l.old.width l.height l.initial.picture l.n l.u0.0 l.u1.0 l.first l.y l.picture
+
+abbrev pub decreases-loop-y : goal.decreases-loop-y
+decreases-loop-y l = l.height - l.y

@@ -18,10 +18,10 @@ pub returns-then-a-b : goal.returns-then-a-b
 returns-then-a-b c = rw (sym c.index-k.ensures) (poked_same _ _ _ _ _ _ _ _ c.if-memory-k.false c.byte_word-a.ensures c.byte_word-b.ensures c.if-a-b.true)
 
 pub returns-then-not-both_fit : goal.returns-then-not-both_fit
-returns-then-not-both_fit c = rw (sym c.index-k.ensures) (poked_unfit _ _ _ _ _ _ (sym c.both_fit.ensures ∙ not-true _ c.if-not-both_fit.true))
+returns-then-not-both_fit c = rw (sym c.index-k.ensures) (poked_unfit _ _ _ _ _ _ (sym c.both_fit.ensures ∙ c.if-not-both_fit.true))
 
 pub touch-requires : goal.touch-requires
-touch-requires c = laid_old _ _ _ (sym c.both_fit.ensures ∙ not-false _ c.if-not-both_fit.false) _ c.layout_of.ensures
+touch-requires c = laid_old _ _ _ (sym c.both_fit.ensures ∙ c.if-not-both_fit.false) _ c.layout_of.ensures
 
 pub returns : goal.returns
-returns c = rw (sym c.index-k.ensures) (let f = sym c.both_fit.ensures ∙ not-false _ c.if-not-both_fit.false in poked _ _ _ _ _ _ _ _ c.if-memory-k.false c.byte_word-a.ensures c.byte_word-b.ensures _ _ _ f (omega (arith, fit_size _ _ _ f)) (as_placed _ _ _ _ _ _ _ _ c.layout_of.ensures (rw (sym c.index-k.ensures) at c.touch.ensures)))
+returns c = rw (sym c.index-k.ensures) (let f = sym c.both_fit.ensures ∙ c.if-not-both_fit.false in poked _ _ _ _ _ _ _ _ c.if-memory-k.false c.byte_word-a.ensures c.byte_word-b.ensures _ _ _ f (omega (arith, fit_size _ _ _ f)) (as_placed _ _ _ _ _ _ _ _ c.layout_of.ensures (rw (sym c.index-k.ensures) at c.touch.ensures)))

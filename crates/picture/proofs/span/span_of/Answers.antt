@@ -19,4 +19,4 @@ pub first_of-from-requires : goal.first_of-from-requires
 first_of-from-requires c = (omega (arith, c.index.ensures, c.if-index-eq0.false), c.requires.0)
 
 pub returns : goal.returns
-returns c = holds_from c.first_of-from.ensures c.end_of_lem.ensures
+returns c = holds_from c.first_of-from.ensures c.end_of-end.ensures

@@ -9,8 +9,8 @@ use Rattle.picture.proofs.view.byte_word.Goals as goal
 
 pub returns-in-All : goal.returns-in-All
 unfolding byte_word
-returns-in-All c = rw c.shown-1.is
+returns-in-All c = rw c.in-All.is
 
 pub returns-in-Each : goal.returns-in-Each
 unfolding byte_word
-returns-in-Each c = rw c.enum_told-1.is (c.entry_word.ensures ∙ ap (λ (e : ℕ). colour_word (entry_of c.args.palette.now e)) c.masked.ensures)
+returns-in-Each c = rw c.in-Each.is (c.entry_word.ensures ∙ ap (λ (e : ℕ). colour_word (entry_of c.args.palette.now e)) c.masked.ensures)

@@ -1,0 +1,17 @@
+-- `model::lent::read` is the step of the definition at a read, whatever it is lent.
+-- The test of the state, then the read without it (DoneLaws). Assumes nothing.
+use mathlib.Core.Path.{ap, ◌∙◌}
+use borrow.Author.Tests.{not-true, not-false}
+use Rattle.chip.specs.declared.Dac.{Dac}
+use Rattle.chip.specs.Access.{reads}
+use Rattle.chip.specs.Parts.{made, state_of}
+use Rattle.chip.specs.Sound.{is_state}
+use Rattle.model.proofs.DoneLaws.{step_none, step_surely}
+use borrow.Author.Rules.{rules}
+use Rattle.model.proofs.lent.read.Goals as goal
+
+pub returns-then-not-is_state : goal.returns-then-not-is_state
+returns-then-not-is_state c = step_none (state_of c.before.before.before.before.before.before.before.args.width c.before.before.before.before.before.before.before.args.height c.before.before.before.before.before.before.before.args.fitted c.before.before.before.before.before.before.before.args.once c.before.before.before.before.before.before.before.args.values.now c.before.before.before.before.before.before.before.args.knowns.now c.before.before.before.before.before.before.before.args.palette.now c.before.before.before.before.before.before.before.args.dac.now) c.before.before.before.before.before.before.before.args.memory.now c.before.before.before.before.before.before.before.args.picture.now (reads c.before.before.before.before.before.before.before.args.target c.before.before.before.before.before.before.before.args.offset c.before.before.before.before.before.before.before.args.enables) _ (c.is_state.ensures ∙ ap (λ (x : Dac). is_state (made c.before.before.before.before.before.before.before.args.width c.before.before.before.before.before.before.before.args.height c.before.before.before.before.before.before.before.args.fitted c.before.before.before.before.before.before.before.args.once c.before.before.before.before.before.before.before.args.values.now c.before.before.before.before.before.before.before.args.knowns.now c.before.before.before.before.before.before.before.args.palette.now x)) c.dac_of.ensures) c.if-not-is_state.true
+
+pub returns : goal.returns
+returns c = step_surely (state_of c.before.before.before.before.before.before.before.before.before.before.args.width c.before.before.before.before.before.before.before.before.before.before.args.height c.before.before.before.before.before.before.before.before.before.before.args.fitted c.before.before.before.before.before.before.before.before.before.before.args.once c.before.before.before.before.before.before.before.before.before.before.args.values.now c.before.before.before.before.before.before.before.before.before.before.args.knowns.now c.before.before.before.before.before.before.before.before.before.before.args.palette.now c.before.before.before.before.before.before.before.before.before.before.args.dac.now) c.before.before.before.before.before.before.before.before.before.before.args.memory.now c.before.before.before.before.before.before.before.before.before.before.args.picture.now (reads c.before.before.before.before.before.before.before.before.before.before.args.target c.before.before.before.before.before.before.before.before.before.before.args.offset c.before.before.before.before.before.before.before.before.before.before.args.enables) _ (c.is_state.ensures ∙ ap (λ (x : Dac). is_state (made c.before.before.before.before.before.before.before.before.before.before.args.width c.before.before.before.before.before.before.before.before.before.before.args.height c.before.before.before.before.before.before.before.before.before.before.args.fitted c.before.before.before.before.before.before.before.before.before.before.args.once c.before.before.before.before.before.before.before.before.before.before.args.values.now c.before.before.before.before.before.before.before.before.before.before.args.knowns.now c.before.before.before.before.before.before.before.before.before.before.args.palette.now x)) c.dac_of.ensures) _ _ _ c.if-not-is_state.false c.sure_read.ensures

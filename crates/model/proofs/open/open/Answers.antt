@@ -1,0 +1,8 @@
+-- `model::open::open` is the opening of the definition, whatever it is handed.
+-- Opened in place, and put together (ValueLaws). Assumes nothing.
+use Rattle.model.proofs.ValueLaws.{packed_opening}
+use borrow.Author.Rules.{rules}
+use Rattle.model.proofs.open.open.Goals as goal
+
+pub returns : goal.returns
+returns c = packed_opening _ _ _ _ _ (rw c.dac_of-d.ensures) c.«open».ensures

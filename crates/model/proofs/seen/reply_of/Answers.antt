@@ -1,0 +1,6 @@
+-- `model::seen::reply_of` is the definition. Assumes nothing.
+use borrow.Author.Rules.{rules}
+use Rattle.model.proofs.seen.reply_of.Goals as goal
+
+pub returns : goal.returns
+returns c = rw (c.word_in.ensures, c.known_in.ensures)

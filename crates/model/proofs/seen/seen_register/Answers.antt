@@ -1,0 +1,6 @@
+-- `model::seen::seen_register` is what both columns hold. Assumes nothing.
+use borrow.Author.Rules.{rules}
+use Rattle.model.proofs.seen.seen_register.Goals as goal
+
+pub returns : goal.returns
+returns c = rw (c.held.ensures, c.held-2.ensures)

@@ -11,7 +11,7 @@ use borrow.Author.Rules.{rules}
 use Rattle.model.proofs.lent.write.Goals as goal
 
 pub returns-then-not-is_state : goal.returns-then-not-is_state
-returns-then-not-is_state c = step_none (state_of c.before.before.before.before.before.before.before.before.before.before.args.width c.before.before.before.before.before.before.before.before.before.before.args.height c.before.before.before.before.before.before.before.before.before.before.args.fitted c.before.before.before.before.before.before.before.before.before.before.args.once.now c.before.before.before.before.before.before.before.before.before.before.args.values.now c.before.before.before.before.before.before.before.before.before.before.args.knowns.now c.before.before.before.before.before.before.before.before.before.before.args.palette.now c.before.before.before.before.before.before.before.before.before.before.args.dac.now) c.before.before.before.before.before.before.before.before.before.before.args.memory.now c.before.before.before.before.before.before.before.before.before.before.args.picture.now (writes c.before.before.before.before.before.before.before.before.before.before.args.target c.before.before.before.before.before.before.before.before.before.before.args.offset c.before.before.before.before.before.before.before.before.before.before.args.enables c.before.before.before.before.before.before.before.before.before.before.args.word) _ (c.is_state.ensures ∙ ap (λ (x : Dac). is_state (made c.before.before.before.before.before.before.before.before.before.before.args.width c.before.before.before.before.before.before.before.before.before.before.args.height c.before.before.before.before.before.before.before.before.before.before.args.fitted c.before.before.before.before.before.before.before.before.before.before.args.once.now c.before.before.before.before.before.before.before.before.before.before.args.values.now c.before.before.before.before.before.before.before.before.before.before.args.knowns.now c.before.before.before.before.before.before.before.before.before.before.args.palette.now x)) c.dac_of.ensures) c.if-not-is_state.true
+returns-then-not-is_state c = step_none (state_of c.args.width c.args.height c.args.fitted c.args.once.now c.args.values.now c.args.knowns.now c.args.palette.now c.args.dac.now) c.args.memory.now c.args.picture.now (writes c.args.target c.args.offset c.args.enables c.args.word) _ (c.is_state.ensures ∙ ap (λ (x : Dac). is_state (made c.args.width c.args.height c.args.fitted c.args.once.now c.args.values.now c.args.knowns.now c.args.palette.now x)) c.dac_of.ensures) c.if-not-is_state.true
 
 pub returns : goal.returns
-returns c = step_surely (state_of c.before.before.before.before.before.before.before.before.before.before.before.before.before.before.before.before.before.before.before.before.before.before.args.width c.before.before.before.before.before.before.before.before.before.before.before.before.before.before.before.before.before.before.before.before.before.before.args.height c.before.before.before.before.before.before.before.before.before.before.before.before.before.before.before.before.before.before.before.before.before.before.args.fitted c.before.before.before.before.before.before.before.before.before.before.before.before.before.before.before.before.before.before.before.before.before.before.args.once.now c.before.before.before.before.before.before.before.before.before.before.before.before.before.before.before.before.before.before.before.before.before.before.args.values.now c.before.before.before.before.before.before.before.before.before.before.before.before.before.before.before.before.before.before.before.before.before.before.args.knowns.now c.before.before.before.before.before.before.before.before.before.before.before.before.before.before.before.before.before.before.before.before.before.before.args.palette.now c.before.before.before.before.before.before.before.before.before.before.before.before.before.before.before.before.before.before.before.before.before.before.args.dac.now) c.before.before.before.before.before.before.before.before.before.before.before.before.before.before.before.before.before.before.before.before.before.before.args.memory.now c.before.before.before.before.before.before.before.before.before.before.before.before.before.before.before.before.before.before.before.before.before.before.args.picture.now (writes c.before.before.before.before.before.before.before.before.before.before.before.before.before.before.before.before.before.before.before.before.before.before.args.target c.before.before.before.before.before.before.before.before.before.before.before.before.before.before.before.before.before.before.before.before.before.before.args.offset c.before.before.before.before.before.before.before.before.before.before.before.before.before.before.before.before.before.before.before.before.before.before.args.enables c.before.before.before.before.before.before.before.before.before.before.before.before.before.before.before.before.before.before.before.before.before.before.args.word) _ (c.is_state.ensures ∙ ap (λ (x : Dac). is_state (made c.before.before.before.before.before.before.before.before.before.before.before.before.before.before.before.before.before.before.before.before.before.before.args.width c.before.before.before.before.before.before.before.before.before.before.before.before.before.before.before.before.before.before.before.before.before.before.args.height c.before.before.before.before.before.before.before.before.before.before.before.before.before.before.before.before.before.before.before.before.before.before.args.fitted c.before.before.before.before.before.before.before.before.before.before.before.before.before.before.before.before.before.before.before.before.before.before.args.once.now c.before.before.before.before.before.before.before.before.before.before.before.before.before.before.before.before.before.before.before.before.before.before.args.values.now c.before.before.before.before.before.before.before.before.before.before.before.before.before.before.before.before.before.before.before.before.before.before.args.knowns.now c.before.before.before.before.before.before.before.before.before.before.before.before.before.before.before.before.before.before.before.before.before.before.args.palette.now x)) c.dac_of.ensures) _ _ _ c.if-not-is_state.false c.sure_write.ensures
+returns c = step_surely (state_of c.args.width c.args.height c.args.fitted c.args.once.now c.args.values.now c.args.knowns.now c.args.palette.now c.args.dac.now) c.args.memory.now c.args.picture.now (writes c.args.target c.args.offset c.args.enables c.args.word) _ (c.is_state.ensures ∙ ap (λ (x : Dac). is_state (made c.args.width c.args.height c.args.fitted c.args.once.now c.args.values.now c.args.knowns.now c.args.palette.now x)) c.dac_of.ensures) _ _ _ c.if-not-is_state.false c.sure_write.ensures

@@ -5,4 +5,4 @@ use borrow.Author.Rules.{rules}
 use Rattle.model.proofs.open.open.Goals as goal
 
 pub returns : goal.returns
-returns c = packed_opening _ _ _ _ _ (rw c.dac_of-d.ensures) c.«open».ensures
+returns c = packed_opening _ _ _ _ _ (rw c.dac_of-d.ensures) c.open-status.ensures

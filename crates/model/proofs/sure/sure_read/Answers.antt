@@ -12,7 +12,7 @@ use borrow.Author.Rules.{rules}
 use Rattle.model.proofs.sure.sure_read.Goals as goal
 
 pub returns-then-n-ne0 : goal.returns-then-n-ne0
-returns-then-n-ne0 c = rw c.refused.ensures (surely_refused (state_of c.before.before.before.before.before.before.before.before.before.args.width c.before.before.before.before.before.before.before.before.before.args.height c.before.before.before.before.before.before.before.before.before.args.fitted c.before.before.before.before.before.before.before.before.before.args.once c.before.before.before.before.before.before.before.before.before.args.values.now c.before.before.before.before.before.before.before.before.before.args.knowns.now c.before.before.before.before.before.before.before.before.before.args.palette.now c.before.before.before.before.before.before.before.before.before.args.dac.now) c.before.before.before.before.before.before.before.before.before.args.memory.now c.before.before.before.before.before.before.before.before.before.args.picture.now (reads c.before.before.before.before.before.before.before.before.before.args.target c.before.before.before.before.before.before.before.before.before.args.offset c.before.before.before.before.before.before.before.before.before.args.enables) _ _ (record { place = (c.place_of-p.ensures ∙ ap (λ (x : Dac). place_at x c.before.before.before.before.before.before.before.before.before.args.target c.before.before.before.before.before.before.before.before.before.args.offset) c.dac_of-d.ensures); status = c.later_status-n.ensures c.before.before.before.before.before.before.before.before.before.args.once c.before.before.before.before.before.before.before.before.before.args.knowns.now c.before.before.before.before.before.before.before.before.before.args.palette.now (dac_of c.before.before.before.before.before.before.before.before.before.args.dac.now) }) c.if-n-ne0.true)
+returns-then-n-ne0 c = rw c.refused.ensures (surely_refused (state_of c.args.width c.args.height c.args.fitted c.args.once c.args.values.now c.args.knowns.now c.args.palette.now c.args.dac.now) c.args.memory.now c.args.picture.now (reads c.args.target c.args.offset c.args.enables) _ _ (record { place = (c.place_of-p.ensures ∙ ap (λ (x : Dac). place_at x c.args.target c.args.offset) c.dac_of-d.ensures); status = c.later_status-n.ensures c.args.once c.args.knowns.now c.args.palette.now (dac_of c.args.dac.now) }) c.if-n-ne0.true)
 
 pub returns : goal.returns
-returns c = surely_read (state_of c.before.before.before.before.before.before.before.before.before.before.before.before.before.args.width c.before.before.before.before.before.before.before.before.before.before.before.before.before.args.height c.before.before.before.before.before.before.before.before.before.before.before.before.before.args.fitted c.before.before.before.before.before.before.before.before.before.before.before.before.before.args.once c.before.before.before.before.before.before.before.before.before.before.before.before.before.args.values.now c.before.before.before.before.before.before.before.before.before.before.before.before.before.args.knowns.now c.before.before.before.before.before.before.before.before.before.before.before.before.before.args.palette.now c.before.before.before.before.before.before.before.before.before.before.before.before.before.args.dac.now) c.before.before.before.before.before.before.before.before.before.before.before.before.before.args.memory.now c.before.before.before.before.before.before.before.before.before.before.before.before.before.args.picture.now (reads c.before.before.before.before.before.before.before.before.before.before.before.before.before.args.target c.before.before.before.before.before.before.before.before.before.before.before.before.before.args.offset c.before.before.before.before.before.before.before.before.before.before.before.before.before.args.enables) _ _ (record { place = (c.place_of-p.ensures ∙ ap (λ (x : Dac). place_at x c.before.before.before.before.before.before.before.before.before.before.before.before.before.args.target c.before.before.before.before.before.before.before.before.before.before.before.before.before.args.offset) c.dac_of-d.ensures); status = c.later_status-n.ensures c.before.before.before.before.before.before.before.before.before.before.before.before.before.args.once c.before.before.before.before.before.before.before.before.before.before.before.before.before.args.knowns.now c.before.before.before.before.before.before.before.before.before.before.before.before.before.args.palette.now (dac_of c.before.before.before.before.before.before.before.before.before.before.before.before.before.args.dac.now) }) _ _ _ c.if-n-ne0.false refl (c.seen_at-x.ensures _ _ _ _ ∙ ap (λ (x : Dac). (port_at (made c.before.before.before.before.before.before.before.before.before.before.before.before.before.args.width c.before.before.before.before.before.before.before.before.before.before.before.before.before.args.height c.before.before.before.before.before.before.before.before.before.before.before.before.before.args.fitted c.before.before.before.before.before.before.before.before.before.before.before.before.before.args.once c.before.before.before.before.before.before.before.before.before.before.before.before.before.args.values.now c.before.before.before.before.before.before.before.before.before.before.before.before.before.args.knowns.now c.before.before.before.before.before.before.before.before.before.before.before.before.before.args.palette.now x) (reads c.before.before.before.before.before.before.before.before.before.before.before.before.before.args.target c.before.before.before.before.before.before.before.before.before.before.before.before.before.args.offset c.before.before.before.before.before.before.before.before.before.before.before.before.before.args.enables) c.place_of-p.result).seen c.before.before.before.before.before.before.before.before.before.before.before.before.before.args.memory.now) c.dac_of-d.ensures) c.reply_of.ensures (read_left _ _ _ _ _ _ _ _ _ c.before.before.before.before.before.before.before.before.before.before.before.before.before.args.memory.now c.before.before.before.before.before.before.before.before.before.before.before.before.before.args.picture.now _ _ (c.fetch_at.ensures _ _ _ _ _ _ _))
+returns c = surely_read (state_of c.args.width c.args.height c.args.fitted c.args.once c.args.values.now c.args.knowns.now c.args.palette.now c.args.dac.now) c.args.memory.now c.args.picture.now (reads c.args.target c.args.offset c.args.enables) _ _ (record { place = (c.place_of-p.ensures ∙ ap (λ (x : Dac). place_at x c.args.target c.args.offset) c.dac_of-d.ensures); status = c.later_status-n.ensures c.args.once c.args.knowns.now c.args.palette.now (dac_of c.args.dac.now) }) _ _ _ c.if-n-ne0.false refl (c.seen_at-x.ensures _ _ _ _ ∙ ap (λ (x : Dac). (port_at (made c.args.width c.args.height c.args.fitted c.args.once c.args.values.now c.args.knowns.now c.args.palette.now x) (reads c.args.target c.args.offset c.args.enables) c.place_of-p.result).seen c.args.memory.now) c.dac_of-d.ensures) c.reply_of.ensures (read_left _ _ _ _ _ _ _ _ _ c.args.memory.now c.args.picture.now _ _ (c.fetch_at.ensures _ _ _ _ _ _ _))

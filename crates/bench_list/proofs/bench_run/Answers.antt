@@ -28,10 +28,10 @@ pub loop-k-init : goal.loop-k-init
 loop-k-init c = ran_none _ _ _ _
 
 pub one-requires : goal.one-requires
-one-requires c = (omega (arith, c.loop-k-test.true, c.well-formed), omega (arith, c.loop-k-test.true, c.if-answers-n.false, c.well-formed))
+one-requires c = (omega (arith, c.loop-k-test.true, c.well_formed), omega (arith, c.loop-k-test.true, c.if-answers-n.false, c.well_formed))
 
 pub overflow_add-k : goal.overflow_add-k
-overflow_add-k c = omega (arith, c.loop-k-test.true, c.well-formed)
+overflow_add-k c = omega (arith, c.loop-k-test.true, c.well_formed)
 
 pub loop-k-smaller : goal.loop-k-smaller
 loop-k-smaller c = omega (arith, c.loop-k-test.true)

@@ -3,7 +3,6 @@ use Prim.Native.Nat.{◌+◌, ◌-◌, ◌%◌}
 use mathlib.Core.Path.{◌≡◌, sym, ◌∙◌}
 use native.Mathlib.Omega.{arith}
 use Rattle.aperture.proofs.LaneLaws.{turned, crossed, straight}
-use borrow.Author.Rules.{rules}
 use Rattle.aperture.proofs.lane_of.Goals as goal
 
 pub returns-then-i-gt3 : goal.returns-then-i-gt3

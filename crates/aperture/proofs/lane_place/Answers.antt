@@ -3,7 +3,6 @@ use native.Mathlib.Omega.{arith}
 use Rattle.chip.specs.Units.{at_byte}
 use Rattle.chip.specs.Aperture.{swap_of}
 use Rattle.chip.proofs.Sums.{along_is}
-use borrow.Author.Rules.{rules}
 use Rattle.aperture.proofs.lane_place.Goals as goal
 
 pub returns : goal.returns

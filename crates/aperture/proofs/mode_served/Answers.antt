@@ -2,7 +2,6 @@
 use mathlib.Core.Bool.{not}
 use mathlib.Core.Path.{sym, ap, ◌∙◌}
 use Rattle.aperture.proofs.LaneLaws.{reserved, packed, svga, rom}
-use borrow.Author.Rules.{rules}
 use Rattle.aperture.proofs.mode_served.Goals as goal
 
 pub returns-then-control-eq3 : goal.returns-then-control-eq3

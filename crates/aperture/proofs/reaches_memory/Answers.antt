@@ -7,7 +7,6 @@ use Rattle.chip.specs.declared.Bytes.{Bytes}
 use Rattle.chip.specs.Units.{at_byte}
 use Rattle.chip.specs.Aperture.{span, reaches_memory}
 use Rattle.chip.proofs.Sums.{along_is}
-use borrow.Author.Rules.{rules}
 use Rattle.aperture.proofs.reaches_memory.Goals as goal
 
 pub returns : goal.returns

@@ -3,7 +3,6 @@ use mathlib.Core.Path.{ap, ◌∙◌}
 use lib.ListN.{get_or}
 use Rattle.chip.specs.declared.Bytes.{Bytes}
 use Rattle.chip.specs.Aperture.{reach, read_lane}
-use borrow.Author.Rules.{rules}
 use Rattle.aperture.proofs.read_lane.Goals as goal
 
 pub returns : goal.returns

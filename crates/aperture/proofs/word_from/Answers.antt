@@ -1,6 +1,5 @@
 -- `aperture::word_from` is the definition: lane by lane, and four bytes in four different lanes fit a word. Assumes nothing.
 use Rattle.chip.specs.Aperture.{word_from}
-use borrow.Author.Rules.{rules}
 use Rattle.aperture.proofs.word_from.Goals as goal
 
 pub returns : goal.returns

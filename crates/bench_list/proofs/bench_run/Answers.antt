@@ -1,15 +1,12 @@
 -- `bench_list::bench_run` is a run over a list after one test.
 -- The loop keeps what the accesses passed leave (RunLaws.Ran). Assumes nothing.
 use borrow.Author.Rules.{rules}
-use Prim.Native.Nat.{◌-◌}
 use mathlib.Core.Path.{ap, ◌∙◌}
 use native.Mathlib.Omega.{arith}
-use borrow.Author.Tests.{not-true, not-false}
 use Rattle.chip.specs.declared.Dac.{Dac}
-use Rattle.chip.specs.Parts.{made, state_of}
+use Rattle.chip.specs.Parts.{made}
 use Rattle.chip.specs.Sound.{is_state}
-use Rattle.bench_list.specs.Run.{world_of}
-use Rattle.bench_list.proofs.RunLaws.{Ran, ran_none, ran_more, runs_none, runs_wrong, runs_done, list_wrong, room_wrong, room_odd, list_right}
+use Rattle.bench_list.proofs.RunLaws.{ran_none, ran_more, runs_none, runs_wrong, runs_done, list_wrong, room_wrong, room_odd, list_right}
 use Rattle.bench_list.proofs.bench_run.Goals as goal
 
 pub returns-then-not-is_state : goal.returns-then-not-is_state

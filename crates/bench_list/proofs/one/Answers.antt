@@ -1,7 +1,6 @@
 -- `bench_list::one` is one access of a list, with its answer.
 -- A read or a write without refusal 1 (RunLaws). Assumes nothing.
 use Rattle.bench_list.proofs.RunLaws.{one_read, one_write}
-use borrow.Author.Rules.{rules}
 use Rattle.bench_list.proofs.one.Goals as goal
 
 pub returns-then-word_at-eq0 : goal.returns-then-word_at-eq0

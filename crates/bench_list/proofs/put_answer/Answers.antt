@@ -1,6 +1,5 @@
 -- `bench_list::put_answer` sets four words. Assumes nothing.
 use Rattle.bench_list.proofs.RunLaws.{put_four}
-use borrow.Author.Rules.{rules}
 use Rattle.bench_list.proofs.put_answer.Goals as goal
 
 pub returns : goal.returns

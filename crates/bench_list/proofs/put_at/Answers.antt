@@ -1,7 +1,6 @@
 -- `bench_list::put_at` sets a word; past the end nothing is set. Assumes nothing.
 use mathlib.Core.Path.{sym}
 use lib.Seq.{set_out}
-use borrow.Author.Rules.{rules}
 use Rattle.bench_list.proofs.put_at.Goals as goal
 
 pub returns : goal.returns

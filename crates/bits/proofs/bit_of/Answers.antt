@@ -1,7 +1,6 @@
 -- `bits::bit_of` is the definition: past bit 31 there is none, and `& 1` is the remainder by two. Assumes nothing.
 use Prim.Native.Nat.{ℕ, ◌/◌, ◌^◌}
 use mathlib.Core.Path.{sym, ap}
-use borrow.Author.Rules.{rules}
 use native.Mathlib.Omega.{arith}
 use lib.Bits.{and_mask}
 use lib.Dec.{eqb}

@@ -1,6 +1,5 @@
 -- `bits::bits_merged` is the definition, from those that it calls. Assumes nothing.
 use mathlib.Core.Path.{◌∙◌, ap₂}
-use borrow.Author.Rules.{rules}
 use Rattle.bits.specs.Word.{joined, merged}
 use Rattle.bits.proofs.bits_merged.Goals as goal
 

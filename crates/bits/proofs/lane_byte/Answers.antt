@@ -4,7 +4,6 @@ use native.Mathlib.Nat.{div-one}
 use native.Mathlib.Omega.{arith}
 use Rattle.bits.specs.Word.{lane_byte}
 use Rattle.bits.proofs.Lanes.{lane_high}
-use borrow.Author.Rules.{rules}
 use Rattle.bits.proofs.lane_byte.Goals as goal
 
 pub returns-in-0 : goal.returns-in-0

@@ -1,7 +1,6 @@
 -- `bits::lanes_of` is the definition, and no sum wraps. Assumes nothing.
 use mathlib.Core.Path.{refl}
 use Rattle.bits.specs.Word.{lanes_of}
-use borrow.Author.Rules.{rules}
 use Rattle.bits.proofs.lanes_of.Goals as goal
 
 pub returns : goal.returns

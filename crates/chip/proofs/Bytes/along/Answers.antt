@@ -1,5 +1,4 @@
 -- `chip::Bytes::along` is the sum of the place and the number of bytes. Assumes nothing.
-use Rattle.std.proofs.Common.{rules}
 use Rattle.chip.proofs.Bytes.along.Goals as goal
 
 pub returns : goal.returns

@@ -1,5 +1,5 @@
 -- `chip::Bytes::since` is the difference, by its test. Assumes nothing.
-use Rattle.std.proofs.Common.{◌≡◌, ◌-◌, ap, arith, rules}
+use Rattle.std.proofs.Common.{◌≡◌, ◌-◌, ap, arith}
 use Rattle.chip.specs.Units.{at_byte}
 use Rattle.chip.proofs.Bytes.since.Goals as goal
 

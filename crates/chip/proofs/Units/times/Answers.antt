@@ -1,5 +1,5 @@
 -- `chip::Units::times` is the product, which 64 bits hold. Assumes nothing.
-use Rattle.std.proofs.Common.{◌*◌, ◌≤◌, mul-le-mul, arith, rules}
+use Rattle.std.proofs.Common.{◌*◌, ◌≤◌, mul-le-mul, arith}
 use Rattle.chip.proofs.Units.times.Goals as goal
 
 pub overflow_mul-result : goal.overflow_mul-result

@@ -2,7 +2,6 @@
 -- Refused with the 0 by 0 state, or the reset state with the picture filled (OpenLaws). Assumes nothing.
 use native.Mathlib.Omega.{arith}
 use Rattle.model.proofs.OpenLaws.{opens_small, opens_dots, opens_refused, opens_done}
-use borrow.Author.Rules.{rules}
 use Rattle.model.proofs.lent.open.Goals as goal
 
 pub returns-then-n-ne0 : goal.returns-then-n-ne0

@@ -1,13 +1,11 @@
 -- `model::lent::write` is the step of the definition at a write, whatever it is lent.
 -- The test of the state, then the write without it (DoneLaws). Assumes nothing.
 use mathlib.Core.Path.{ap, ◌∙◌}
-use borrow.Author.Tests.{not-true, not-false}
 use Rattle.chip.specs.declared.Dac.{Dac}
 use Rattle.chip.specs.Access.{writes}
 use Rattle.chip.specs.Parts.{made, state_of}
 use Rattle.chip.specs.Sound.{is_state}
 use Rattle.model.proofs.DoneLaws.{step_none, step_surely}
-use borrow.Author.Rules.{rules}
 use Rattle.model.proofs.lent.write.Goals as goal
 
 pub returns-then-not-is_state : goal.returns-then-not-is_state

@@ -4,7 +4,6 @@ use mathlib.Core.Path.{sym, ap}
 use Rattle.chip.specs.declared.State.{State}
 use Rattle.chip.specs.Parts.{replied}
 use Rattle.model.proofs.ValueLaws.{taken, packed}
-use borrow.Author.Rules.{rules}
 use Rattle.model.proofs.look.look.Goals as goal
 
 pub returns : goal.returns

@@ -1,7 +1,6 @@
 -- `model::open::open` is the opening of the definition, whatever it is handed.
 -- Opened in place, and put together (ValueLaws). Assumes nothing.
 use Rattle.model.proofs.ValueLaws.{packed_opening}
-use borrow.Author.Rules.{rules}
 use Rattle.model.proofs.open.open.Goals as goal
 
 pub returns : goal.returns

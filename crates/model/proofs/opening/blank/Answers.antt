@@ -1,9 +1,7 @@
 -- `model::opening::blank` fills the picture.
 -- The loop keeps the words passed blank (OpenLaws.Blanked). Assumes nothing.
-use Prim.Native.Nat.{◌-◌}
 use native.Mathlib.Omega.{arith}
-use lib.ListN.{length}
-use Rattle.model.proofs.OpenLaws.{Blanked, blank_start, blank_more, blank_end}
+use Rattle.model.proofs.OpenLaws.{blank_start, blank_more, blank_end}
 use Rattle.model.proofs.opening.blank.Goals as goal
 
 pub loop-i-init : goal.loop-i-init

@@ -1,7 +1,6 @@
 use Prim.Native.Nat.{◌-◌}
-use native.Mathlib.Omega.{arith}
 use lib.ListN.{length}
-use Rattle.model.proofs.OpenLaws.{Blanked, blank_start, blank_more, blank_end}
+use Rattle.model.proofs.OpenLaws.{Blanked}
 use Rattle.model.proofs.opening.blank.Given as goal
 
 abbrev pub invariant-loop-i : goal.invariant-loop-i

@@ -1,7 +1,5 @@
 -- `model::opening::open_status` is the refusal of an opening, or 0.
 -- Line by line. Assumes nothing.
-use borrow.Author.Tests.{not-true, not-false}
-use borrow.Author.Rules.{rules}
 use Rattle.model.proofs.TestLaws.{product_fits}
 use Rattle.model.proofs.OpenLaws.{line_eight, line_nine, line_size, line_none}
 use Rattle.model.proofs.opening.open_status.Goals as goal

@@ -2,7 +2,6 @@
 use mathlib.Core.Path.{ap, ◌∙◌}
 use Rattle.chip.specs.Parts.{dac_of}
 use Rattle.model.proofs.OpenLaws.{reset_of}
-use borrow.Author.Rules.{rules}
 use Rattle.model.proofs.opening.reset_parts.Goals as goal
 
 pub returns : goal.returns

@@ -1,7 +1,6 @@
 -- `model::read::read` is the step of the definition at a read, whatever it is handed.
 -- Taken apart, done in place, put together (ValueLaws). Assumes nothing.
 use Rattle.model.proofs.ValueLaws.{taken, packed}
-use borrow.Author.Rules.{rules}
 use Rattle.model.proofs.read.read.Goals as goal
 
 pub returns : goal.returns

@@ -1,7 +1,6 @@
 -- `model::seen::known_in` is the definition.
 -- Assumes nothing.
 use mathlib.Core.Path.{ap, ◌∙◌}
-use borrow.Author.Rules.{rules}
 use Rattle.bits.specs.Word.{inside}
 use Rattle.chip.specs.Port.{known_in}
 use Rattle.model.proofs.seen.known_in.Goals as goal

@@ -1,7 +1,6 @@
 -- `model::seen::palette_wide` is the bit. Assumes nothing.
 use mathlib.Core.Path.{ap, ◌∙◌}
 use Rattle.bits.specs.Bit.{bit}
-use borrow.Author.Rules.{rules}
 use Rattle.model.proofs.seen.palette_wide.Goals as goal
 
 pub returns : goal.returns

@@ -1,5 +1,4 @@
 -- `model::seen::reply_of` is the definition. Assumes nothing.
-use borrow.Author.Rules.{rules}
 use Rattle.model.proofs.seen.reply_of.Goals as goal
 
 pub returns : goal.returns

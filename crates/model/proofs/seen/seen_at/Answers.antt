@@ -1,6 +1,5 @@
 -- `model::seen::seen_at` is what a read sees, place by place. Assumes nothing.
 use Rattle.chip.specs.Port.{wide, port_at}
-use borrow.Author.Rules.{rules}
 use Rattle.model.proofs.seen.seen_at.Goals as goal
 
 pub returns-in-Register : goal.returns-in-Register

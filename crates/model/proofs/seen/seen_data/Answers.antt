@@ -1,5 +1,4 @@
 -- `model::seen::seen_data` is the component as the width shows it. Assumes nothing.
-use borrow.Author.Rules.{rules}
 use Rattle.model.proofs.seen.seen_data.Goals as goal
 
 pub returns : goal.returns

@@ -1,5 +1,4 @@
 -- `model::seen::seen_register` is what both columns hold. Assumes nothing.
-use borrow.Author.Rules.{rules}
 use Rattle.model.proofs.seen.seen_register.Goals as goal
 
 pub returns : goal.returns

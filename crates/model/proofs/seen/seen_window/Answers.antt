@@ -1,5 +1,4 @@
 -- `model::seen::seen_window` is the word of the lanes, all known. Assumes nothing.
-use borrow.Author.Rules.{rules}
 use Rattle.model.proofs.seen.seen_window.Goals as goal
 
 pub returns : goal.returns

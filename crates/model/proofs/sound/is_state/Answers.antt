@@ -1,6 +1,5 @@
 -- `model::sound::is_state_lem` is the definition: the groups of tests joined. Assumes nothing.
 use Rattle.model.proofs.TestLaws.{all_tests}
-use borrow.Author.Rules.{rules}
 use Rattle.model.proofs.sound.is_state.Goals as goal
 
 pub returns : goal.returns

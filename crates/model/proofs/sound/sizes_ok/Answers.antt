@@ -4,7 +4,6 @@ use mathlib.Core.Path.{refl}
 use Rattle.chip.specs.Sound.{once_ok}
 use Rattle.model.specs.Parts.{sizes_ok}
 use Rattle.model.proofs.TestLaws.{and_no, and_yes}
-use borrow.Author.Rules.{rules}
 use Rattle.model.proofs.sound.sizes_ok.Goals as goal
 
 pub returns-then-memory_ok : goal.returns-then-memory_ok

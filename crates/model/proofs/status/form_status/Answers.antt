@@ -1,7 +1,5 @@
 -- `model::status::form_status` is lines 3 and on. Assumes nothing.
-use borrow.Author.Tests.{not-true, not-false}
 use Rattle.model.proofs.TestLaws.{line_three, line_four, after_four}
-use borrow.Author.Rules.{rules}
 use Rattle.model.proofs.status.form_status.Goals as goal
 
 pub returns-then-not-form_ok : goal.returns-then-not-form_ok

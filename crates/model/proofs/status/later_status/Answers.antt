@@ -1,7 +1,5 @@
 -- `model::status::later_status` is the lines after 1. Assumes nothing.
-use borrow.Author.Tests.{not-true, not-false}
 use Rattle.model.proofs.TestLaws.{line_two, after_two}
-use borrow.Author.Rules.{rules}
 use Rattle.model.proofs.status.later_status.Goals as goal
 
 pub returns-then-not-lent_ok : goal.returns-then-not-lent_ok

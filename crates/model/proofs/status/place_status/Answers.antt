@@ -5,7 +5,6 @@ use Rattle.bits.proofs.Cases.{pick_same}
 use Rattle.chip.specs.Access.{is_write}
 use Rattle.chip.specs.Port.{port_at}
 use Rattle.model.proofs.TestLaws.{line_five, no_line}
-use borrow.Author.Rules.{rules}
 use Rattle.model.proofs.status.place_status.Goals as goal
 
 pub returns-in-Register : goal.returns-in-Register

@@ -3,7 +3,6 @@ use mathlib.Core.Path.{refl, ◌∙◌}
 use Rattle.chip.specs.Access.{is_write}
 use Rattle.chip.specs.Port.{port_at}
 use Rattle.model.proofs.TestLaws.{line_six, no_line, way_yes, way_no}
-use borrow.Author.Rules.{rules}
 use Rattle.model.proofs.status.register_status.Goals as goal
 
 pub returns-then-row_writes : goal.returns-then-row_writes

@@ -1,12 +1,10 @@
 -- `model::status::window_status` is lines 5 to 7 at a window: memory is fitted, and the mode is served. Assumes nothing.
 use mathlib.Core.Bool.{true}
 use mathlib.Core.Path.{◌∙◌}
-use borrow.Author.Tests.{not-true, not-false}
 use Rattle.bits.proofs.Cases.{pick_same}
 use Rattle.chip.specs.Access.{is_write}
 use Rattle.chip.specs.Port.{port_at}
 use Rattle.model.proofs.TestLaws.{line_five, line_seven, no_line, fits_by, served_by}
-use borrow.Author.Rules.{rules}
 use Rattle.model.proofs.status.window_status.Goals as goal
 
 pub returns-then-not-reaches_memory : goal.returns-then-not-reaches_memory

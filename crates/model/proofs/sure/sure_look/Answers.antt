@@ -3,7 +3,6 @@ use mathlib.Core.Path.{refl}
 use Rattle.chip.specs.Access.{looks}
 use Rattle.chip.specs.Parts.{made}
 use Rattle.model.proofs.DoneLaws.{surely_refused, surely_look}
-use borrow.Author.Rules.{rules}
 use Rattle.model.proofs.sure.sure_look.Goals as goal
 
 pub returns-then-n-ne0 : goal.returns-then-n-ne0

@@ -8,7 +8,6 @@ use Rattle.chip.specs.Place.{place_at}
 use Rattle.chip.specs.Port.{port_at}
 use Rattle.model.proofs.DoneLaws.{surely_refused, surely_read}
 use Rattle.model.proofs.PlaceLaws.{read_left}
-use borrow.Author.Rules.{rules}
 use Rattle.model.proofs.sure.sure_read.Goals as goal
 
 pub returns-then-n-ne0 : goal.returns-then-n-ne0

@@ -6,7 +6,6 @@ use Rattle.chip.specs.Access.{writes}
 use Rattle.chip.specs.Parts.{dac_of, state_of}
 use Rattle.chip.specs.Place.{place_at}
 use Rattle.model.proofs.DoneLaws.{surely_refused, surely_write}
-use borrow.Author.Rules.{rules}
 use Rattle.model.proofs.sure.sure_write.Goals as goal
 
 pub returns-then-n-ne0 : goal.returns-then-n-ne0

@@ -2,7 +2,6 @@
 use mathlib.Core.Path.{ap}
 use Rattle.chip.specs.declared.Bytes.{Bytes}
 use Rattle.model.proofs.WindowLaws.{lane_yes, lane_no}
-use borrow.Author.Rules.{rules}
 use Rattle.model.proofs.window.write_lane.Goals as goal
 
 pub returns-then-bit_of : goal.returns-then-bit_of

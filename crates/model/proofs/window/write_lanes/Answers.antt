@@ -2,7 +2,6 @@
 -- One after the other (WindowLaws). Assumes nothing.
 use native.Mathlib.Omega.{arith}
 use Rattle.model.proofs.WindowLaws.{window_small, window_in}
-use borrow.Author.Rules.{rules}
 use Rattle.model.proofs.window.write_lanes.Goals as goal
 
 pub overflow_add-result : goal.overflow_add-result

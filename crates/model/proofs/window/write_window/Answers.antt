@@ -1,5 +1,4 @@
 -- `model::window::write_window` writes the four lanes through the aperture's mode. Assumes nothing.
-use borrow.Author.Rules.{rules}
 use Rattle.model.proofs.window.write_window.Goals as goal
 
 pub returns : goal.returns

@@ -3,7 +3,6 @@ use mathlib.Core.Path.{ap, ◌∙◌}
 use Rattle.chip.specs.Dac.{after_fetch}
 use Rattle.chip.specs.Parts.{dac_of}
 use Rattle.model.proofs.PlaceLaws.{fetched_yes, fetched_no}
-use borrow.Author.Rules.{rules}
 use Rattle.model.proofs.written.fetch.Goals as goal
 
 pub returns-then-bit_of : goal.returns-then-bit_of

@@ -1,6 +1,5 @@
 -- `model::written::fetch_at` is what a read leaves of the pointer, place by place. Assumes nothing.
 use Rattle.chip.specs.Port.{port_at}
-use borrow.Author.Rules.{rules}
 use Rattle.model.proofs.written.fetch_at.Goals as goal
 
 pub returns-in-Register : goal.returns-in-Register

@@ -1,7 +1,6 @@
 -- `model::written::paint` stores an entry and redraws its dots.
 -- Its word before and after (PlaceLaws). Assumes nothing.
 use Rattle.model.proofs.PlaceLaws.{entry_painted}
-use borrow.Author.Rules.{rules}
 use Rattle.model.proofs.written.paint.Goals as goal
 
 pub returns : goal.returns

@@ -3,7 +3,6 @@ use mathlib.Core.Path.{ap, ◌∙◌}
 use Rattle.chip.specs.Dac.{aimed_at}
 use Rattle.chip.specs.Parts.{dac_of}
 use Rattle.model.proofs.PlaceLaws.{aimed_yes, aimed_no}
-use borrow.Author.Rules.{rules}
 use Rattle.model.proofs.written.write_address.Goals as goal
 
 pub returns-then-bit_of : goal.returns-then-bit_of

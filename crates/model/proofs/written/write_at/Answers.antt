@@ -1,5 +1,4 @@
 -- `model::written::write_at`, place by place (PlaceLaws). Assumes nothing.
-use borrow.Author.Rules.{rules}
 use Rattle.model.proofs.PlaceLaws.{at_put, address_put, window_put_lem, blank_put, nowhere_put}
 use Rattle.model.proofs.written.write_at.Goals as goal
 

@@ -2,13 +2,11 @@
 -- PlaceLaws. Assumes nothing.
 use mathlib.Core.Bool.{◌&&◌}
 use mathlib.Core.Path.{ap, ◌∙◌}
-use borrow.Author.Tests.{not-true, not-false}
 use lib.Dec.{eqb}
 use Rattle.chip.specs.declared.Dac.{Dac}
 use Rattle.chip.specs.Dac.{after_paint, both_staged}
 use Rattle.chip.specs.Parts.{dac_of}
 use Rattle.model.proofs.PlaceLaws.{data_idle, data_staged, data_painted}
-use borrow.Author.Rules.{rules}
 use Rattle.model.proofs.written.write_data.Goals as goal
 
 pub returns-then-not-bit_of : goal.returns-then-not-bit_of

@@ -1,7 +1,6 @@
 -- `model::written::write_register` stores a row, with the redraw between the views before and after where a view reads it.
 -- PlaceLaws. Assumes nothing.
 use Rattle.model.proofs.PlaceLaws.{register_quiet, register_shown}
-use borrow.Author.Rules.{rules}
 use Rattle.model.proofs.written.write_register.Goals as goal
 
 pub returns-then-row_shows : goal.returns-then-row_shows

@@ -1,6 +1,5 @@
 -- `palette::dac::after_fetch` is the definition. Assumes nothing.
 use Rattle.chip.specs.Dac.{after_fetch}
-use borrow.Author.Rules.{rules}
 use Rattle.palette.proofs.dac.after_fetch.Goals as goal
 
 pub returns : goal.returns

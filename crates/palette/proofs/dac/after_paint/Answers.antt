@@ -1,7 +1,6 @@
 -- `palette::dac::after_paint` is the definition, by the component and what is staged. Assumes nothing.
 use mathlib.Core.Path.{◌∙◌}
 use Rattle.palette.proofs.DacLaws.{paints_red, paints_green, paints_none, red_missing, not_green}
-use borrow.Author.Rules.{rules}
 use Rattle.palette.proofs.dac.after_paint.Goals as goal
 use Rattle.palette.proofs.dac.after_paint.Goals.{then-d-eq1+else-d-eq1-2, else-d-eq1}
 

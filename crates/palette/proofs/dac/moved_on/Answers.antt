@@ -1,7 +1,6 @@
 -- `palette::dac::moved_on` is the definition, by its test. Assumes nothing.
 use borrow.Author.Tests.{lt-ltb, le-ltb}
 use Rattle.chip.specs.Dac.{advanced}
-use borrow.Author.Rules.{rules}
 use Rattle.palette.proofs.dac.moved_on.Goals as goal
 
 pub returns-then-d-lt2 : goal.returns-then-d-lt2

@@ -2,7 +2,6 @@
 use mathlib.Core.Path.{ap, ◌∙◌}
 use Rattle.palette.specs.declared.entries.Found.TheVariants.{Stored}
 use Rattle.palette.proofs.EntryLaws.{entry_never, entry_stored}
-use borrow.Author.Rules.{rules}
 use Rattle.palette.proofs.entries.entry_of.Goals as goal
 
 pub returns-then-w-eq1 : goal.returns-then-w-eq1

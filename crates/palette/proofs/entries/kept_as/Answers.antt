@@ -1,7 +1,6 @@
 -- `palette::entries::kept_as` is the definition, by the width; what six bits make is a byte. Assumes nothing.
 use Rattle.chip.specs.Palette.{kept_as}
 use mathlib.Core.Path.{refl}
-use borrow.Author.Rules.{rules}
 use Rattle.palette.proofs.entries.kept_as.Goals as goal
 
 pub returns-then-wide : goal.returns-then-wide

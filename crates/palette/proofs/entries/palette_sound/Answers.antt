@@ -1,9 +1,6 @@
 -- `palette::entries::palette_sound` is the definition. The invariant: the largest turned word so far is at most 01000000h exactly where every entry passed.
 -- The measure is what is left of 256. Assumes nothing.
-use Prim.Native.Nat.{◌≤◌, ◌-◌}
-use mathlib.Core.Path.{◌≡◌, refl, ◌∙◌}
-use lib.Dec.{leb}
-use Rattle.bits.specs.Choose.{every_to}
+use mathlib.Core.Path.{refl, ◌∙◌}
 use Rattle.chip.specs.Palette.{entry_ok, palette_ok}
 use Rattle.bits.proofs.Gathers.{one_more, at_end}
 use borrow.Author.Rules.{rules}

@@ -1,10 +1,8 @@
 use Prim.Native.Nat.{◌≤◌, ◌-◌}
-use mathlib.Core.Path.{◌≡◌, refl, ◌∙◌}
+use mathlib.Core.Path.{◌≡◌}
 use lib.Dec.{leb}
 use Rattle.bits.specs.Choose.{every_to}
-use Rattle.chip.specs.Palette.{entry_ok, palette_ok}
-use Rattle.bits.proofs.Gathers.{one_more, at_end}
-use borrow.Author.Rules.{rules}
+use Rattle.chip.specs.Palette.{entry_ok}
 use Rattle.palette.proofs.entries.palette_sound.Given as goal
 
 abbrev pub invariant-loop-i : goal.invariant-loop-i

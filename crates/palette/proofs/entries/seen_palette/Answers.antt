@@ -4,7 +4,6 @@ use mathlib.Core.Path.{sym, ap, ◌∙◌}
 use Rattle.chip.specs.Palette.{entry_of, shown_as}
 use Rattle.chip.specs.Port.{seen}
 use Rattle.palette.proofs.AccessLaws.{sees_never, sees_part}
-use borrow.Author.Rules.{rules}
 use Rattle.palette.proofs.entries.seen_palette.Goals as goal
 
 pub returns-in-Never : goal.returns-in-Never

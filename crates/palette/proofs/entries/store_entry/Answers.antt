@@ -2,7 +2,6 @@
 use mathlib.Core.Path.{ap}
 use lib.ListN.{set}
 use Rattle.chip.specs.Palette.{store_entry}
-use borrow.Author.Rules.{rules}
 use Rattle.palette.proofs.entries.store_entry.Goals as goal
 
 pub returns : goal.returns

@@ -1,7 +1,6 @@
 -- `picture::dot::look` is the definition, by its test. Assumes nothing.
 use borrow.Author.Tests.{lt-ltb, le-ltb}
 use Rattle.picture.specs.Draw.{look_of}
-use borrow.Author.Rules.{rules}
 use native.Mathlib.Omega.{arith}
 use lib.ListN.{length}
 use Rattle.picture.proofs.dot.look.Goals as goal

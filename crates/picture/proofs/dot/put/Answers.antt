@@ -1,7 +1,6 @@
 -- `picture::dot::put` stores the chosen word and counts it where it differs. From what it calls. Assumes nothing.
 use mathlib.Core.Path.{ap, ◌∙◌}
 use lib.ListN.{set}
-use borrow.Author.Rules.{rules}
 use Rattle.picture.proofs.dot.put.Goals as goal
 
 pub returns : goal.returns

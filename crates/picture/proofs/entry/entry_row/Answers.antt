@@ -1,10 +1,7 @@
 -- `picture::entry::entry_row` redraws the dots of its row of which the masked byte is the entry.
 -- The loop keeps the dots passed drawn (RowLaws.Along); a turn is one more dot (EntryLaws). Assumes nothing.
-use borrow.Author.Rules.{rules}
-use Prim.Native.Nat.{◌-◌}
 use native.Mathlib.Omega.{arith}
-use Rattle.picture.specs.Entry.{row_marks}
-use Rattle.picture.proofs.RowLaws.{Along, along_start, put_one}
+use Rattle.picture.proofs.RowLaws.{along_start, put_one}
 use Rattle.picture.proofs.EntryLaws.{entry_step, entry_end}
 use Rattle.picture.proofs.entry.entry_row.Goals as goal
 

@@ -1,9 +1,6 @@
-use borrow.Author.Rules.{rules}
 use Prim.Native.Nat.{◌-◌}
-use native.Mathlib.Omega.{arith}
 use Rattle.picture.specs.Entry.{row_marks}
-use Rattle.picture.proofs.RowLaws.{Along, along_start, put_one}
-use Rattle.picture.proofs.EntryLaws.{entry_step, entry_end}
+use Rattle.picture.proofs.RowLaws.{Along}
 use Rattle.picture.proofs.entry.entry_row.Given as goal
 
 abbrev pub invariant-loop-x : goal.invariant-loop-x

@@ -1,11 +1,8 @@
 -- `picture::entry::entry_rows` redraws the dots that show one palette entry.
 -- The loop keeps the rows passed drawn (RowsLaws.Drawing); a turn is one more row. Assumes nothing.
-use borrow.Author.Rules.{rules}
-use Prim.Native.Nat.{◌-◌}
 use native.Mathlib.Omega.{arith}
 use Rattle.chip.proofs.Sums.{in_bytes_is, plus_is}
-use Rattle.picture.specs.Entry.{laid_marks}
-use Rattle.picture.proofs.RowsLaws.{Drawing, drawing_start, drawing_old, drawing_room, drawing_few, drawing_first, drawing_end, marking_more}
+use Rattle.picture.proofs.RowsLaws.{drawing_start, drawing_old, drawing_room, drawing_few, drawing_first, drawing_end, marking_more}
 use Rattle.picture.proofs.entry.entry_rows.Goals as goal
 
 pub loop-y-init : goal.loop-y-init

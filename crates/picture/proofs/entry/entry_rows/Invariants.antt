@@ -1,9 +1,6 @@
-use borrow.Author.Rules.{rules}
 use Prim.Native.Nat.{◌-◌}
-use native.Mathlib.Omega.{arith}
-use Rattle.chip.proofs.Sums.{in_bytes_is, plus_is}
 use Rattle.picture.specs.Entry.{laid_marks}
-use Rattle.picture.proofs.RowsLaws.{Drawing, drawing_start, drawing_old, drawing_room, drawing_few, drawing_first, drawing_end, marking_more}
+use Rattle.picture.proofs.RowsLaws.{Drawing}
 use Rattle.picture.proofs.entry.entry_rows.Given as goal
 
 abbrev pub invariant-loop-y : goal.invariant-loop-y

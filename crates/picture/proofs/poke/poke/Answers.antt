@@ -2,10 +2,8 @@
 -- Past the end; two bytes of one word; a panel that does not fit; else by touch (PokeLaws). Assumes nothing.
 use mathlib.Core.Path.{sym, ◌∙◌}
 use native.Mathlib.Omega.{arith}
-use borrow.Author.Tests.{not-true, not-false}
 use Rattle.picture.proofs.FitLaws.{fit_size, laid_old, as_placed}
 use Rattle.picture.proofs.PokeLaws.{poked_out, poked_unfit, poked_same, poked}
-use borrow.Author.Rules.{rules}
 use Rattle.picture.proofs.poke.poke.Goals as goal
 
 pub returns-then-memory-k : goal.returns-then-memory-k

@@ -2,12 +2,11 @@
 -- The loop keeps the rows passed drawn (TouchLaws.Touching); a turn is one dot of one more row. Assumes nothing.
 use native.Mathlib.Omega.{arith}
 use Rattle.picture.proofs.RowLaws.{put_one}
-use Rattle.picture.proofs.TouchLaws.{all_before, span_small, Touching, touching_none, touching_start, touching_turn, touching_more, touching_end}
-use Prim.Native.Nat.{ℕ, ◌+◌, ◌-◌}
+use Rattle.picture.proofs.TouchLaws.{all_before, span_small, touching_none, touching_start, touching_turn, touching_more, touching_end}
+use Prim.Native.Nat.{ℕ, ◌+◌}
 use mathlib.Core.Path.{sym, ap, ◌∙◌}
 use borrow.Author.Tests.{ltb-true, ltb-false}
 use Rattle.chip.proofs.Sums.{in_bytes_is, since_is, plus_is, times_is}
-use borrow.Author.Rules.{rules}
 use Rattle.picture.proofs.poke.touch.Goals as goal
 
 pub returns-then-below : goal.returns-then-below

@@ -1,11 +1,5 @@
-use native.Mathlib.Omega.{arith}
-use Rattle.picture.proofs.RowLaws.{put_one}
-use Rattle.picture.proofs.TouchLaws.{all_before, span_small, Touching, touching_none, touching_start, touching_turn, touching_more, touching_end}
-use Prim.Native.Nat.{ℕ, ◌+◌, ◌-◌}
-use mathlib.Core.Path.{sym, ap, ◌∙◌}
-use borrow.Author.Tests.{ltb-true, ltb-false}
-use Rattle.chip.proofs.Sums.{in_bytes_is, since_is, plus_is, times_is}
-use borrow.Author.Rules.{rules}
+use Rattle.picture.proofs.TouchLaws.{Touching}
+use Prim.Native.Nat.{◌-◌}
 use Rattle.picture.proofs.poke.touch.Given as goal
 
 abbrev pub invariant-loop-y : goal.invariant-loop-y

@@ -2,8 +2,6 @@
 -- Test by test (FitLaws); the product stays below 2 to the 20th. Assumes nothing.
 use mathlib.Core.Path.{sym, ◌∙◌}
 use native.Mathlib.Omega.{arith}
-use borrow.Author.Tests.{not-true, not-false}
-use borrow.Author.Rules.{rules}
 use Rattle.picture.proofs.FitLaws.{panel_product, fits_panel, fits_width, fits_size}
 use Rattle.picture.proofs.redraw.both_fit.Goals as goal
 

@@ -5,7 +5,6 @@ use native.Mathlib.Omega.{arith}
 use Rattle.picture.proofs.Parts.{part_redraws, no_redraw, still_redraws}
 use Rattle.picture.proofs.PokeLaws.{same_words}
 use Rattle.picture.proofs.FitLaws.{fit_size}
-use borrow.Author.Rules.{rules}
 use Rattle.picture.proofs.redraw.redraw.Goals as goal
 
 pub returns-then-same_view : goal.returns-then-same_view

@@ -1,11 +1,9 @@
 -- `picture::redraw::redraw_entry` redraws the dots that show one entry.
 -- None where one word is every dot's, or nothing fits; else row by row (MarkLaws). Assumes nothing.
 use mathlib.Core.Path.{sym, ◌∙◌}
-use borrow.Author.Tests.{not-true, not-false}
 use Rattle.picture.proofs.Parts.{no_redraw}
 use Rattle.picture.proofs.FitLaws.{laid_old}
 use Rattle.picture.proofs.MarkLaws.{marks_none, marks_drawn}
-use borrow.Author.Rules.{rules}
 use Rattle.picture.proofs.redraw.redraw_entry.Goals as goal
 
 pub returns-then-not-each_own : goal.returns-then-not-each_own

@@ -1,7 +1,6 @@
 -- `picture::redraw::redraw_fit` redraws every dot between two views.
 -- The layouts and tables of both (FitLaws). Assumes nothing.
 use Rattle.picture.proofs.FitLaws.{fit_width, laid_old, laid_new, views_drawn}
-use borrow.Author.Rules.{rules}
 use Rattle.picture.proofs.redraw.redraw_fit.Goals as goal
 
 pub draw_rows-requires : goal.draw_rows-requires

@@ -1,6 +1,5 @@
 -- `picture::redraw::same_view_lem` is the definition, by its cases. Assumes nothing.
 use Rattle.picture.specs.View.{same_place, same_view}
-use borrow.Author.Rules.{rules}
 use Rattle.picture.proofs.redraw.same_view.Goals as goal
 
 pub returns-in-All-b : goal.returns-in-All-b

@@ -1,12 +1,9 @@
 -- `picture::row::both_row` redraws the dots of a row.
 -- Inside memory in both layouts dot by dot (RowLaws.Along), past its end by `rest_row` (EntryLaws). Assumes nothing.
-use Prim.Native.Nat.{◌-◌}
 use mathlib.Core.Path.{refl}
 use native.Mathlib.Omega.{arith}
-use Rattle.picture.specs.Row.{old_dots, new_dots}
-use Rattle.picture.proofs.RowLaws.{Along, along_start, along_more, put_one}
+use Rattle.picture.proofs.RowLaws.{along_start, along_more, put_one}
 use Rattle.picture.proofs.EntryLaws.{look_byte, both_end}
-use borrow.Author.Rules.{rules}
 use Rattle.picture.proofs.row.both_row.Goals as goal
 
 pub loop-x-init : goal.loop-x-init

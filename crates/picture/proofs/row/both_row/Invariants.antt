@@ -1,10 +1,6 @@
 use Prim.Native.Nat.{◌-◌}
-use mathlib.Core.Path.{refl}
-use native.Mathlib.Omega.{arith}
 use Rattle.picture.specs.Row.{old_dots, new_dots}
-use Rattle.picture.proofs.RowLaws.{Along, along_start, along_more, put_one}
-use Rattle.picture.proofs.EntryLaws.{look_byte, both_end}
-use borrow.Author.Rules.{rules}
+use Rattle.picture.proofs.RowLaws.{Along}
 use Rattle.picture.proofs.row.both_row.Given as goal
 
 abbrev pub invariant-loop-x : goal.invariant-loop-x

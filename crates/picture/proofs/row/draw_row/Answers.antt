@@ -1,10 +1,7 @@
 -- `picture::row::draw_row` redraws the dots of its row.
 -- The loop keeps the dots passed drawn (RowLaws.Along); a turn is one more dot. Assumes nothing.
-use Prim.Native.Nat.{◌-◌}
 use native.Mathlib.Omega.{arith}
-use Rattle.picture.specs.Row.{old_dots, new_dots}
-use Rattle.picture.proofs.RowLaws.{Along, along_start, along_more, along_end, put_one, look_along}
-use borrow.Author.Rules.{rules}
+use Rattle.picture.proofs.RowLaws.{along_start, along_more, along_end, put_one, look_along}
 use Rattle.picture.proofs.row.draw_row.Goals as goal
 
 pub loop-x-init : goal.loop-x-init

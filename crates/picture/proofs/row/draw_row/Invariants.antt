@@ -1,8 +1,6 @@
 use Prim.Native.Nat.{◌-◌}
-use native.Mathlib.Omega.{arith}
 use Rattle.picture.specs.Row.{old_dots, new_dots}
-use Rattle.picture.proofs.RowLaws.{Along, along_start, along_more, along_end, put_one, look_along}
-use borrow.Author.Rules.{rules}
+use Rattle.picture.proofs.RowLaws.{Along}
 use Rattle.picture.proofs.row.draw_row.Given as goal
 
 abbrev pub invariant-loop-x : goal.invariant-loop-x

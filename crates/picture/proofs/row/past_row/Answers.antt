@@ -1,10 +1,8 @@
 -- `picture::row::past_row` gives every dot of its row one word.
 -- None changes where it is the same; else dot by dot (RowLaws.Along). Assumes nothing.
-use Prim.Native.Nat.{◌-◌}
 use mathlib.Core.Path.{refl}
 use native.Mathlib.Omega.{arith}
-use Rattle.picture.specs.Row.{always}
-use Rattle.picture.proofs.RowLaws.{Along, along_start, along_more, along_end, put_one}
+use Rattle.picture.proofs.RowLaws.{along_start, along_more, along_end, put_one}
 use Rattle.picture.proofs.EntryLaws.{past_alike}
 use Rattle.picture.proofs.row.past_row.Goals as goal
 

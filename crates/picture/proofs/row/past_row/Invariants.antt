@@ -1,9 +1,6 @@
 use Prim.Native.Nat.{◌-◌}
-use mathlib.Core.Path.{refl}
-use native.Mathlib.Omega.{arith}
 use Rattle.picture.specs.Row.{always}
-use Rattle.picture.proofs.RowLaws.{Along, along_start, along_more, along_end, put_one}
-use Rattle.picture.proofs.EntryLaws.{past_alike}
+use Rattle.picture.proofs.RowLaws.{Along}
 use Rattle.picture.proofs.row.past_row.Given as goal
 
 abbrev pub invariant-loop-x : goal.invariant-loop-x

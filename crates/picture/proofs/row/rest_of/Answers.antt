@@ -1,5 +1,4 @@
 -- `picture::row::rest_of` is the definition, field by field. Assumes nothing.
-use borrow.Author.Rules.{rules}
 use Rattle.picture.proofs.row.rest_of.Goals as goal
 
 pub returns : goal.returns

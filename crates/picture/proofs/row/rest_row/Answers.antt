@@ -2,7 +2,6 @@
 -- Dot by dot as far as one layout lies in memory, and past its end in both at once (EntryLaws.rest_end). Assumes nothing.
 use native.Mathlib.Omega.{arith}
 use Rattle.picture.proofs.EntryLaws.{rest_end}
-use borrow.Author.Rules.{rules}
 use Rattle.picture.proofs.row.rest_row.Goals as goal
 
 pub draw_row-n-requires : goal.draw_row-n-requires

@@ -1,11 +1,8 @@
 -- `picture::rows::draw_rows` redraws every dot of the panel.
 -- The loop keeps the rows passed drawn (RowsLaws.Drawing); a turn is one more row. Assumes nothing.
-use Prim.Native.Nat.{◌-◌}
 use native.Mathlib.Omega.{arith}
-use Rattle.picture.specs.Layout.{laid_dots}
-use Rattle.picture.proofs.RowsLaws.{Drawing, drawing_start, drawing_old, drawing_new, drawing_room, drawing_few, drawing_first, drawing_more, drawing_end}
+use Rattle.picture.proofs.RowsLaws.{drawing_start, drawing_old, drawing_new, drawing_room, drawing_few, drawing_first, drawing_more, drawing_end}
 use Rattle.chip.proofs.Sums.{in_bytes_is, plus_is}
-use borrow.Author.Rules.{rules}
 use Rattle.picture.proofs.rows.draw_rows.Goals as goal
 
 pub loop-y-init : goal.loop-y-init

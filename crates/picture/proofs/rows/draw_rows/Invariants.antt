@@ -1,9 +1,6 @@
 use Prim.Native.Nat.{◌-◌}
-use native.Mathlib.Omega.{arith}
 use Rattle.picture.specs.Layout.{laid_dots}
-use Rattle.picture.proofs.RowsLaws.{Drawing, drawing_start, drawing_old, drawing_new, drawing_room, drawing_few, drawing_first, drawing_more, drawing_end}
-use Rattle.chip.proofs.Sums.{in_bytes_is, plus_is}
-use borrow.Author.Rules.{rules}
+use Rattle.picture.proofs.RowsLaws.{Drawing}
 use Rattle.picture.proofs.rows.draw_rows.Given as goal
 
 abbrev pub invariant-loop-y : goal.invariant-loop-y

@@ -1,6 +1,5 @@
 -- `picture::span::end_of` is the end of the rows that start at the byte or before it.
 -- By whether the quotient is a row of the panel (SpanLaws). Assumes nothing.
-use borrow.Author.Rules.{rules}
 use Rattle.picture.proofs.SpanLaws.{end_inside, end_height}
 use native.Mathlib.Omega.{arith}
 use Rattle.picture.proofs.span.end_of.Goals as goal

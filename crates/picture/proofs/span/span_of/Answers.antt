@@ -1,6 +1,5 @@
 -- `picture::span::span_of` is the span of the rows that hold the byte.
 -- From its two ends, and at stride 0 every row or none (SpanLaws). Assumes nothing.
-use borrow.Author.Rules.{rules}
 use Rattle.picture.proofs.SpanLaws.{holds_from, holds_all, holds_none}
 use native.Mathlib.Omega.{arith}
 use mathlib.Core.Path.{sym, ◌∙◌}

@@ -4,7 +4,6 @@ use mathlib.Core.Path.{◌∙◌, ap}
 use Rattle.chip.specs.Palette.{entry_of}
 use Rattle.chip.specs.Picture.{colour_word}
 use Rattle.picture.specs.View.{byte_word}
-use borrow.Author.Rules.{rules}
 use Rattle.picture.proofs.view.byte_word.Goals as goal
 
 pub returns-in-All : goal.returns-in-All

@@ -1,6 +1,5 @@
 -- `picture::view::entry_word` is the word of rules 4 and 5, by the entry's top byte. Assumes nothing.
 use Rattle.picture.proofs.ViewLaws.{entry_coloured, entry_unstored}
-use borrow.Author.Rules.{rules}
 use Rattle.picture.proofs.view.entry_word.Goals as goal
 
 pub returns-then-w-eq1 : goal.returns-then-w-eq1

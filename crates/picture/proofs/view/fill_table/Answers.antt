@@ -1,9 +1,6 @@
 -- `picture::view::fill_table` gives the words of the 256 bytes.
 -- The loop keeps those of the bytes passed. Assumes nothing.
-use borrow.Author.Rules.{rules}
-use Prim.Native.Nat.{◌-◌, ◌≤◌}
 use native.Mathlib.Omega.{arith}
-use Rattle.picture.specs.Draw.{TableFrom}
 use Rattle.picture.proofs.ViewLaws.{table_start, table_more, table_end}
 use Rattle.picture.proofs.view.fill_table.Goals as goal
 

@@ -1,8 +1,5 @@
-use borrow.Author.Rules.{rules}
 use Prim.Native.Nat.{◌-◌, ◌≤◌}
-use native.Mathlib.Omega.{arith}
 use Rattle.picture.specs.Draw.{TableFrom}
-use Rattle.picture.proofs.ViewLaws.{table_start, table_more, table_end}
 use Rattle.picture.proofs.view.fill_table.Given as goal
 
 abbrev pub invariant-loop-b : goal.invariant-loop-b

@@ -2,7 +2,6 @@
 use Rattle.picture.proofs.ViewLaws.{third_unplaced}
 use borrow.Author.Tests.{eq-eqb, ne_eqb}
 use Rattle.chip.specs.View.{unplaced}
-use borrow.Author.Rules.{rules}
 use Rattle.picture.proofs.view.is_unplaced.Goals as goal
 
 pub returns-then-knowns-ne1048575 : goal.returns-then-knowns-ne1048575

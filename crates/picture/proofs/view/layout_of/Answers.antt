@@ -1,6 +1,5 @@
 -- `picture::view::layout_of` is the definition, field by field. Assumes nothing.
 use Rattle.picture.specs.Layout.{layout_of}
-use borrow.Author.Rules.{rules}
 use Rattle.picture.proofs.view.layout_of.Goals as goal
 
 pub returns : goal.returns

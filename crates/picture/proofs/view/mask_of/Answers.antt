@@ -1,7 +1,6 @@
 -- `picture::view::mask_of` is the definition. Assumes nothing.
 use mathlib.Core.Path.{refl}
 use Rattle.chip.specs.View.{mask_of}
-use borrow.Author.Rules.{rules}
 use Rattle.picture.proofs.view.mask_of.Goals as goal
 
 pub returns : goal.returns

@@ -1,7 +1,6 @@
 -- `picture::view::shown_in` is the definition, by the two tests. Assumes nothing.
 use mathlib.Core.Path.{sym, ◌∙◌}
 use Rattle.picture.specs.View.{shown_in}
-use borrow.Author.Rules.{rules}
 use Rattle.picture.proofs.view.shown_in.Goals as goal
 
 pub returns-then-not_indexed : goal.returns-then-not_indexed

@@ -1,6 +1,5 @@
 -- `picture::view::view_of` is the definition, field by field. Assumes nothing.
 use Rattle.picture.specs.View.{view_in}
-use borrow.Author.Rules.{rules}
 use Rattle.picture.proofs.view.view_of.Goals as goal
 
 pub returns : goal.returns

@@ -7,7 +7,6 @@ use Rattle.chip.specs.Indirect.{indirect_rows}
 use Rattle.chip.specs.Bank.{bank_rows, bank_resets, bank_knowns}
 use Rattle.chip.specs.Register.{may_change}
 use Rattle.registers.proofs.Rows.{bank_sound_lem}
-use borrow.Author.Rules.{rules}
 use Rattle.registers.proofs.bank.bank_sound.Goals as goal
 
 pub returns : goal.returns

@@ -1,7 +1,6 @@
 -- `registers::bank::brought_word` is the definition.
 -- From what its calls give. Assumes nothing.
 use mathlib.Core.Path.{◌∙◌, ap}
-use borrow.Author.Rules.{rules}
 use Rattle.bits.specs.Word.{outside}
 use Rattle.chip.specs.Register.{brought_word}
 use Rattle.registers.proofs.bank.brought_word.Goals as goal

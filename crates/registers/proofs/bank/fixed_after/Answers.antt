@@ -1,6 +1,5 @@
 -- `registers::bank::fixed_after` is the subsystem numbers that are fixed after a write.
 -- A write of theirs fixes some, any other none. Assumes nothing.
-use borrow.Author.Rules.{rules}
 use Rattle.chip.specs.Subsystem.{fixed_by}
 use Rattle.registers.proofs.Rows.{fixed_other}
 use Rattle.registers.proofs.bank.fixed_after.Goals as goal

@@ -3,7 +3,6 @@ use mathlib.Core.Path.{ap, ◌∙◌}
 use Prim.Native.Nat.{◌%◌}
 use Rattle.bits.specs.Bit.{bit}
 use Rattle.registers.specs.Columns.{in_set}
-use borrow.Author.Rules.{rules}
 use Rattle.registers.proofs.bank.in_set.Goals as goal
 
 pub returns : goal.returns

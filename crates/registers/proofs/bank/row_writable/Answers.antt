@@ -1,7 +1,6 @@
 -- `registers::bank::row_writable` is the row's writable bits.
 -- The column is that of the rows, computed. Assumes nothing.
 use mathlib.Core.Path.{◌∙◌}
-use borrow.Author.Rules.{rules}
 use Rattle.chip.specs.Region.{region_rows}
 use Rattle.chip.specs.Header.{header_rows}
 use Rattle.chip.specs.Indirect.{indirect_rows}

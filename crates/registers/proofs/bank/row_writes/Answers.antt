@@ -2,7 +2,6 @@
 -- The set of rows is computed. Assumes nothing.
 use mathlib.Core.Path.{◌∙◌}
 use Rattle.registers.proofs.Rows.{writes_at}
-use borrow.Author.Rules.{rules}
 use Rattle.registers.proofs.bank.row_writes.Goals as goal
 
 pub returns : goal.returns

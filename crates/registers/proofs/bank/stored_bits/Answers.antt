@@ -2,7 +2,6 @@
 -- The subsystem numbers by their own rule, any other register by its row. Assumes nothing.
 use Prim.Native.Nat.{ℕ}
 use mathlib.Core.Path.{◌∙◌, ap, ap₂}
-use borrow.Author.Rules.{rules}
 use Rattle.bits.specs.Word.{inside, joined}
 use Rattle.chip.specs.Register.{moved_bits}
 use Rattle.chip.specs.Subsystem.{stored_bits}

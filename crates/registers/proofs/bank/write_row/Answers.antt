@@ -1,7 +1,6 @@
 -- `registers::bank::write_row` leaves the parts as a write of the row does.
 -- Both columns are set at the row (Stored). Assumes nothing.
 use Rattle.registers.proofs.Stored.{row_written}
-use borrow.Author.Rules.{rules}
 use Rattle.registers.proofs.bank.write_row.Goals as goal
 
 pub returns : goal.returns

@@ -1,6 +1,5 @@
 -- `registers::indirect::index_reset` is the reset that the map has at an index.
 -- It is that part of the packed entry. Assumes nothing.
-use borrow.Author.Rules.{rules}
 use native.Mathlib.Omega.{arith}
 use Rattle.registers.proofs.PackedEntries.{unpacks}
 use Rattle.registers.proofs.indirect.index_reset.Goals as goal

@@ -1,6 +1,5 @@
 -- `registers::indirect::index_row` is the row that an index names.
 -- It is that part of the packed entry. Assumes nothing.
-use borrow.Author.Rules.{rules}
 use native.Mathlib.Omega.{arith}
 use Rattle.registers.proofs.PackedEntries.{unpacks}
 use Rattle.registers.proofs.indirect.index_row.Goals as goal

@@ -1,7 +1,6 @@
 -- `registers::indirect::packed_of` is the map's entry and row at an index, packed.
 -- The table is the map, packed, computed. Assumes nothing.
 use mathlib.Core.Path.{◌∙◌}
-use borrow.Author.Rules.{rules}
 use native.Mathlib.Omega.{arith}
 use Rattle.chip.specs.Region.{region_rows}
 use Rattle.chip.specs.Header.{header_rows}

@@ -2,7 +2,6 @@
 -- The offsets searched are those of the rows, computed; a search ends within them, so that the sum fits. Assumes nothing.
 use Prim.Native.Nat.{◌+◌}
 use mathlib.Core.Path.{refl, ◌∙◌, ap}
-use borrow.Author.Rules.{rules}
 use native.Mathlib.Omega.{arith}
 use Rattle.chip.specs.Header.{header_rows}
 use Rattle.chip.specs.Bank.{header_count, header_first, header_at}

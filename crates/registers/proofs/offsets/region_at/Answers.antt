@@ -1,7 +1,6 @@
 -- `registers::offsets::region_at` is the row of region 0 at an offset.
 -- The offsets searched are those of the rows, computed. Assumes nothing.
 use mathlib.Core.Path.{◌∙◌}
-use borrow.Author.Rules.{rules}
 use Rattle.chip.specs.Region.{region_rows}
 use Rattle.chip.specs.Bank.{region_at}
 use Rattle.registers.specs.Columns.{first_row}

@@ -1,6 +1,5 @@
 -- `registers::place::header_place` is where an offset of the header leads.
 -- Past FCh nowhere; a row of the header is a register, any other offset blank. Assumes nothing.
-use borrow.Author.Rules.{rules}
 use Rattle.registers.proofs.Places.{past_header, at_config, at_blank}
 use Rattle.registers.proofs.place.header_place.Goals as goal
 

@@ -1,6 +1,5 @@
 -- `registers::place::indexed_place` is where indexed data leads.
 -- By whether the address is known, and by the map's row: one that is none of the indirect registers is nowhere. Assumes nothing.
-use borrow.Author.Rules.{rules}
 use Rattle.registers.proofs.Places.{index_unknown, index_absent, index_present}
 use Rattle.registers.proofs.place.indexed_place.Goals as goal
 

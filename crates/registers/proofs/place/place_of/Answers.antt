@@ -1,6 +1,5 @@
 -- `registers::place::place_of` is where an access leads.
 -- The four targets by their numbers, any other nowhere. Assumes nothing.
-use borrow.Author.Rules.{rules}
 use native.Mathlib.Omega.{arith}
 use Rattle.chip.specs.Place.{place_at}
 use Rattle.registers.proofs.Places.{no_target}

@@ -1,7 +1,6 @@
 -- `registers::place::region_place` is where an offset of region 0 leads.
 -- The four ports by their offsets, any other by the table. Assumes nothing.
 use mathlib.Core.Path.{◌∙◌}
-use borrow.Author.Rules.{rules}
 use native.Mathlib.Omega.{arith}
 use Rattle.chip.specs.Place.{region_place}
 use Rattle.registers.proofs.Places.{no_port}

@@ -1,6 +1,5 @@
 -- `registers::place::register_place` is where an offset of region 0 leads past the ports.
 -- A row of region 0 is a register, any other nowhere. Assumes nothing.
-use borrow.Author.Rules.{rules}
 use Rattle.registers.proofs.Places.{at_register, at_none}
 use Rattle.registers.proofs.place.register_place.Goals as goal
 

@@ -1,6 +1,5 @@
 -- `registers::subsystem::both_lanes` is that both lanes are enabled.
 -- By the first lane: the second decides where it is enabled. Assumes nothing.
-use borrow.Author.Rules.{rules}
 use Rattle.registers.proofs.subsystem.both_lanes.Goals as goal
 
 pub returns-then-bit_of : goal.returns-then-bit_of

@@ -1,6 +1,5 @@
 -- `registers::subsystem::half_bits` is the definition.
 -- From what its calls give. Assumes nothing.
-use borrow.Author.Rules.{rules}
 use Rattle.chip.specs.Subsystem.{half_bits}
 use Rattle.registers.proofs.subsystem.half_bits.Goals as goal
 

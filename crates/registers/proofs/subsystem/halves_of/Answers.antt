@@ -1,6 +1,5 @@
 -- `registers::subsystem::halves_of` is the definition.
 -- From what its calls give; the two halves are 1 and 2 at most, so that their sum fits. Assumes nothing.
-use borrow.Author.Rules.{rules}
 use native.Mathlib.Omega.{arith}
 use Rattle.chip.specs.Subsystem.{halves_of}
 use Rattle.registers.proofs.Flags.{flag_le}

@@ -1,6 +1,5 @@
 -- `registers::subsystem::once_after` is the definition.
 -- From what its calls give. Assumes nothing.
-use borrow.Author.Rules.{rules}
 use Rattle.chip.specs.Subsystem.{once_after}
 use Rattle.registers.proofs.subsystem.once_after.Goals as goal
 

@@ -1,6 +1,5 @@
 -- `registers::subsystem::once_moved` is the definition.
 -- From what its calls give. Assumes nothing.
-use borrow.Author.Rules.{rules}
 use Rattle.chip.specs.Subsystem.{once_moved}
 use Rattle.registers.proofs.subsystem.once_moved.Goals as goal
 

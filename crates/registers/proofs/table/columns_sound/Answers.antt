@@ -1,10 +1,8 @@
 -- `registers::table::columns_sound` is the test of every row.
 -- The word gathered so far has no fault exactly where no register passed has one; the measure is what is left of the columns. Assumes nothing.
-use borrow.Author.Rules.{rules}
-use Prim.Native.Nat.{◌-◌}
 use mathlib.Core.Path.{refl}
 use native.Mathlib.Omega.{arith}
-use Rattle.bits.proofs.Gathers.{Gathered, gather_more, gathered_all}
+use Rattle.bits.proofs.Gathers.{gather_more, gathered_all}
 use Rattle.bits.specs.Word.{joined}
 use Rattle.chip.specs.Bank.{bank_count}
 use Rattle.registers.proofs.FaultLaws.{faults_by}

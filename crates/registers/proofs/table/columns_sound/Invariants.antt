@@ -1,12 +1,7 @@
-use borrow.Author.Rules.{rules}
 use Prim.Native.Nat.{◌-◌}
-use mathlib.Core.Path.{refl}
-use native.Mathlib.Omega.{arith}
-use Rattle.bits.proofs.Gathers.{Gathered, gather_more, gathered_all}
-use Rattle.bits.specs.Word.{joined}
+use Rattle.bits.proofs.Gathers.{Gathered}
 use Rattle.chip.specs.Bank.{bank_count}
-use Rattle.registers.proofs.FaultLaws.{faults_by}
-use Rattle.registers.specs.Columns.{column_ok, columns_sound}
+use Rattle.registers.specs.Columns.{column_ok}
 use Rattle.registers.proofs.table.columns_sound.Given as goal
 
 abbrev pub invariant-loop-i : goal.invariant-loop-i

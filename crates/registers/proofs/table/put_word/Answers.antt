@@ -2,7 +2,6 @@
 -- Past the end nothing is set. Assumes nothing.
 use mathlib.Core.Path.{sym}
 use lib.Seq.{set_out}
-use borrow.Author.Rules.{rules}
 use Rattle.registers.proofs.table.put_word.Goals as goal
 
 pub returns : goal.returns

@@ -1,12 +1,10 @@
 -- `registers::table::row_with` is the first place.
 -- No row passed holds o; the measure is what is left of the table. Assumes nothing.
-use Prim.Native.Nat.{ℕ, ◌≤◌, ◌<◌, ◌-◌}
-use mathlib.Core.Path.{◌≡◌, sym, ◌∙◌}
+use mathlib.Core.Path.{sym, ◌∙◌}
 use borrow.Author.Count.{below_none, below_more}
 use borrow.Author.Rules.{rules}
 use native.Mathlib.Omega.{arith}
 use native.Mathlib.Nat.{le_antisymm}
-use lib.ListN.{get_or, length}
 use Rattle.registers.specs.Columns.{first_row}
 use Rattle.registers.proofs.Searches.{first_hit, first_none}
 use Rattle.registers.proofs.table.row_with.Goals as goal

@@ -1,7 +1,6 @@
 -- `registers::table::word_of` is the element, and past the end zero.
 -- By the test against the length. Assumes nothing.
 use mathlib.Core.Path.{sym}
-use borrow.Author.Rules.{rules}
 use lib.ListN.{get_or-eq_default}
 use Rattle.registers.proofs.table.word_of.Goals as goal
 

@@ -2,7 +2,6 @@
 -- The number's text, and the byte behind it (WroteLaws). Assumes nothing.
 use native.Mathlib.Omega.{arith}
 use Rattle.text.proofs.WroteLaws.{behind, wrote_length, numeral_length}
-use borrow.Author.Rules.{rules}
 use Rattle.text.proofs.answer.word.Goals as goal
 
 pub put-requires : goal.put-requires

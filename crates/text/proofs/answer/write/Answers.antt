@@ -2,7 +2,6 @@
 -- Its four numbers one behind the other (WroteLaws). Assumes nothing.
 use native.Mathlib.Omega.{arith}
 use Rattle.text.proofs.WroteLaws.{behind, renamed, wrote_length, ended_length, answer_joined}
-use borrow.Author.Rules.{rules}
 use Rattle.text.proofs.answer.write.Goals as goal
 
 pub word-b-requires : goal.word-b-requires

@@ -1,9 +1,6 @@
 -- `text::find::find` counts the bytes before the first one sought.
 -- What is before it from each place on (FieldLaws). Assumes nothing.
-use Prim.Native.Nat.{◌-◌}
-use native.Mathlib.Omega.{arith}
-use lib.ListN.{length}
-use Rattle.text.proofs.FieldLaws.{Sought, sought_first, sought_here, sought_on, sought_end}
+use Rattle.text.proofs.FieldLaws.{sought_first, sought_here, sought_on, sought_end}
 use Rattle.text.proofs.find.find.Goals as goal
 
 pub loop-i-init : goal.loop-i-init

@@ -1,7 +1,6 @@
 use Prim.Native.Nat.{◌-◌}
-use native.Mathlib.Omega.{arith}
 use lib.ListN.{length}
-use Rattle.text.proofs.FieldLaws.{Sought, sought_first, sought_here, sought_on, sought_end}
+use Rattle.text.proofs.FieldLaws.{Sought}
 use Rattle.text.proofs.find.find.Given as goal
 
 abbrev pub invariant-loop-i : goal.invariant-loop-i

@@ -1,9 +1,7 @@
 -- `text::gather::copy` copies bytes behind those that are held, as far as the buffer goes.
 -- Byte by byte, and what is left out is past the end (GatherLaws). Assumes nothing.
-use Prim.Native.Nat.{◌-◌}
 use native.Mathlib.Omega.{arith}
-use borrow.Author.Rules.{rules}
-use Rattle.text.proofs.GatherLaws.{Copied, copy_first, copy_on, copy_few, copy_room, copy_done}
+use Rattle.text.proofs.GatherLaws.{copy_first, copy_on, copy_few, copy_room, copy_done}
 use Rattle.text.proofs.gather.copy.Goals as goal
 
 pub loop-i-init : goal.loop-i-init
@@ -27,5 +25,8 @@ overflow_add-result c = let n = copy_room c.args.s.now c.args.buffer.now c.args.
 pub shape_of-buffer : goal.shape_of-buffer
 shape_of-buffer c = c.loop-i.invariant.long
 
-pub returns : goal.returns
-returns c = copy_done c.args.s.now c.args.buffer.now c.args.held _ _ c.room.ensures c.least-n.ensures _ _ c.loop-i-test.false c.loop-i.invariant
+pub returns-clause-buffer_after : goal.returns-clause-buffer_after
+returns-clause-buffer_after c = (copy_done c.args.s.now c.args.buffer.now c.args.held _ _ c.room.ensures c.least-n.ensures _ _ c.loop-i-test.false c.loop-i.invariant).0
+
+pub returns-clause-value : goal.returns-clause-value
+returns-clause-value c = (copy_done c.args.s.now c.args.buffer.now c.args.held _ _ c.room.ensures c.least-n.ensures _ _ c.loop-i-test.false c.loop-i.invariant).1

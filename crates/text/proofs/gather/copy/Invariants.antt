@@ -1,7 +1,5 @@
 use Prim.Native.Nat.{◌-◌}
-use native.Mathlib.Omega.{arith}
-use borrow.Author.Rules.{rules}
-use Rattle.text.proofs.GatherLaws.{Copied, copy_first, copy_on, copy_few, copy_room, copy_done}
+use Rattle.text.proofs.GatherLaws.{Copied}
 use Rattle.text.proofs.gather.copy.Given as goal
 
 abbrev pub invariant-loop-i : goal.invariant-loop-i

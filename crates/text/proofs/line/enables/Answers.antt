@@ -3,7 +3,6 @@
 use native.Mathlib.Omega.{arith}
 use borrow.Author.Tests.{not-true, not-false}
 use Rattle.text.proofs.LineLaws.{part_length, end_within, enables_bad, enables_ended, enables_more}
-use borrow.Author.Rules.{rules}
 use Rattle.text.proofs.line.enables.Goals as goal
 
 pub slice_bounds-number-end : goal.slice_bounds-number-end

@@ -1,7 +1,6 @@
 -- `text::line::ended` is what a line asks for where nothing is left behind the enables.
 -- The two branches. Assumes nothing.
 use mathlib.Core.Path.{sym, ◌∙◌}
-use borrow.Author.Rules.{rules}
 use Rattle.text.specs.Line.{word_next}
 use Rattle.text.proofs.line.ended.Goals as goal
 

@@ -3,7 +3,6 @@
 use mathlib.Core.Path.{◌∙◌}
 use borrow.Author.Tests.{eq-eqb, ne_eqb}
 use Rattle.text.specs.Line.{kind_next}
-use borrow.Author.Rules.{rules}
 use Rattle.text.proofs.line.kind.Goals as goal
 
 pub returns-then-c-eq114 : goal.returns-then-c-eq114

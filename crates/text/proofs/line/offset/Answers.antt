@@ -3,7 +3,6 @@
 use native.Mathlib.Omega.{arith}
 use borrow.Author.Tests.{not-true, not-false}
 use Rattle.text.proofs.LineLaws.{part_length, end_within, offset_last, offset_bad, offset_more}
-use borrow.Author.Rules.{rules}
 use Rattle.text.proofs.line.offset.Goals as goal
 
 pub returns-then-e-s : goal.returns-then-e-s

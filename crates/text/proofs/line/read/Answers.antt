@@ -3,7 +3,6 @@
 use native.Mathlib.Omega.{arith}
 use Rattle.text.proofs.FieldLaws.{up_to_le}
 use Rattle.text.proofs.LineLaws.{line_long, line_short, kind_none, kind_last, kind_more}
-use borrow.Author.Rules.{rules}
 use Rattle.text.proofs.line.read.Goals as goal
 
 pub returns-then-s-gt64 : goal.returns-then-s-gt64

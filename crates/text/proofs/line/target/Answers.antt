@@ -3,7 +3,6 @@
 use native.Mathlib.Omega.{arith}
 use Rattle.text.proofs.FieldLaws.{up_to_le}
 use Rattle.text.proofs.LineLaws.{target_none, target_bad, target_last, target_more}
-use borrow.Author.Rules.{rules}
 use Rattle.text.proofs.line.target.Goals as goal
 
 pub returns-then-find-ne1 : goal.returns-then-find-ne1

@@ -1,7 +1,6 @@
 -- `text::number::digit` is what a digit counts.
 -- Test by test (NumberLaws). Assumes nothing.
 use Rattle.text.proofs.NumberLaws.{digit_low, digit_decimal, digit_between, digit_upper, digit_middle, digit_lower, digit_high}
-use borrow.Author.Rules.{rules}
 use Rattle.text.proofs.number.digit.Goals as goal
 
 pub returns-then-c-lt48 : goal.returns-then-c-lt48

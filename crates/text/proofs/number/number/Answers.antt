@@ -1,10 +1,7 @@
 -- `text::number::number` is what a field spells.
 -- The digits one by one, of at most eight (NumberLaws). Assumes nothing.
-use Prim.Native.Nat.{◌-◌}
 use native.Mathlib.Omega.{arith}
-use borrow.Author.Rules.{rules}
-use lib.ListN.{length}
-use Rattle.text.proofs.NumberLaws.{Read, read_first, read_on, read_bad, read_all, power_small, times_less, number_empty, number_long, number_bad, number_good}
+use Rattle.text.proofs.NumberLaws.{read_first, read_on, read_bad, read_all, power_small, times_less, number_empty, number_long, number_bad, number_good}
 use Rattle.text.proofs.number.number.Goals as goal
 
 pub returns-then-s-eq0 : goal.returns-then-s-eq0

@@ -1,8 +1,6 @@
 use Prim.Native.Nat.{◌-◌}
-use native.Mathlib.Omega.{arith}
-use borrow.Author.Rules.{rules}
 use lib.ListN.{length}
-use Rattle.text.proofs.NumberLaws.{Read, read_first, read_on, read_bad, read_all, power_small, times_less, number_empty, number_long, number_bad, number_good}
+use Rattle.text.proofs.NumberLaws.{Read}
 use Rattle.text.proofs.number.number.Given as goal
 
 abbrev pub invariant-loop-i : goal.invariant-loop-i

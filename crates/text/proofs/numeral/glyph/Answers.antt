@@ -2,7 +2,6 @@
 -- The two branches. Assumes nothing.
 use borrow.Author.Tests.{lt-ltb, le-ltb}
 use Rattle.text.specs.Numeral.{glyph_of}
-use borrow.Author.Rules.{rules}
 use Rattle.text.proofs.numeral.glyph.Goals as goal
 
 pub returns-then-d-lt10 : goal.returns-then-d-lt10

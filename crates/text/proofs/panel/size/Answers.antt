@@ -2,7 +2,6 @@
 -- Where the x stands, and the numbers beside it (SizeLaws). Assumes nothing.
 use native.Mathlib.Omega.{arith}
 use Rattle.text.proofs.SizeLaws.{size_part, size_within, size_none, size_both}
-use borrow.Author.Rules.{rules}
 use Rattle.text.proofs.panel.size.Goals as goal
 
 pub returns-then-e-s : goal.returns-then-e-s

@@ -2,7 +2,6 @@
 -- Case by case (ShownLaws). Assumes nothing.
 use native.Mathlib.Omega.{arith}
 use Rattle.text.proofs.ShownLaws.{colour_drawn, colour_beyond, colour_mode, colour_never, colour_unplaced, colour_other}
-use borrow.Author.Rules.{rules}
 use Rattle.text.proofs.shown.colour.Goals as goal
 
 pub returns-in-1 : goal.returns-in-1

@@ -1,7 +1,6 @@
 -- `text::shown::digit_at` is a digit, or ? where a bit of it is unknown.
 -- The two branches (ShownLaws). Assumes nothing.
 use Rattle.text.proofs.ShownLaws.{digit_known, digit_unknown}
-use borrow.Author.Rules.{rules}
 use Rattle.text.proofs.shown.digit_at.Goals as goal
 
 pub returns-then-known-unit-eq15 : goal.returns-then-known-unit-eq15

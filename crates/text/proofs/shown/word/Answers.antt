@@ -1,7 +1,6 @@
 -- `text::shown::word` is a word's eight digits, with ? for each that has an unknown bit.
 -- Digit by digit (ShownLaws). Assumes nothing.
 use Rattle.text.proofs.ShownLaws.{word_by_lem}
-use borrow.Author.Rules.{rules}
 use Rattle.text.proofs.shown.word.Goals as goal
 
 pub returns : goal.returns

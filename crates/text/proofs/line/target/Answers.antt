@@ -2,7 +2,7 @@
 -- Test by test (LineLaws). Assumes nothing.
 use native.Mathlib.Omega.{arith}
 use Rattle.text.proofs.FieldLaws.{up_to_le}
-use Rattle.text.proofs.LineLaws.{target_none, target_bad, target_last, target_more}
+use Rattle.text.proofs.LineLaws.{target_none, target_last}
 use Rattle.text.proofs.line.target.Goals as goal
 
 pub returns-then-find-ne1 : goal.returns-then-find-ne1
@@ -10,9 +10,6 @@ returns-then-find-ne1 c = target_none _ _ c.find.ensures _ c.if-find-ne1.true
 
 pub bounds-s-0 : goal.bounds-s-0
 bounds-s-0 c = let q = c.find.ensures in let h = up_to_le 32 c.args.s.now in omega arith
-
-pub returns-then-t-gt9 : goal.returns-then-t-gt9
-returns-then-t-gt9 c = target_bad _ _ c.find.ensures c.if-find-ne1.false _ _ c.digit-t.ensures c.if-t-gt9.true
 
 pub returns-then-s-eq1 : goal.returns-then-s-eq1
 returns-then-s-eq1 c = target_last _ _ c.find.ensures c.if-find-ne1.false _ c.if-s-eq1.true
@@ -22,6 +19,3 @@ slice_bounds-offset-count c = let q = c.find.ensures in let h = up_to_le 32 c.ar
 
 pub slice_bounds-offset-start : goal.slice_bounds-offset-start
 slice_bounds-offset-start c = let q = c.find.ensures in let h = up_to_le 32 c.args.s.now in omega arith
-
-pub returns : goal.returns
-returns c = target_more _ _ c.find.ensures c.if-find-ne1.false _ _ c.digit-t.ensures c.if-t-gt9.false c.if-s-eq1.false _ c.offset.ensures

@@ -1,14 +1,11 @@
 -- `text::number::number` is what a field spells.
 -- The digits one by one, of at most eight (NumberLaws). Assumes nothing.
 use native.Mathlib.Omega.{arith}
-use Rattle.text.proofs.NumberLaws.{read_first, read_on, read_bad, read_all, power_small, times_less, number_empty, number_long, number_bad, number_good}
+use Rattle.text.proofs.NumberLaws.{read_first, read_on, read_bad, power_small, times_less, number_empty, number_bad}
 use Rattle.text.proofs.number.number.Goals as goal
 
 pub returns-then-s-eq0 : goal.returns-then-s-eq0
 returns-then-s-eq0 c = number_empty _ _ c.if-s-eq0.true
-
-pub returns-then-s-gt8 : goal.returns-then-s-gt8
-returns-then-s-gt8 c = number_long _ _ c.if-s-gt8.true
 
 pub loop-i-init : goal.loop-i-init
 loop-i-init c = read_first _ _
@@ -24,6 +21,3 @@ overflow_add-v c = let p = power_small c.loop-i.i (omega arith) in let s = c.loo
 
 pub loop-i-preserved : goal.loop-i-preserved
 loop-i-preserved c = read_on _ c.requires _ _ _ c.loop-i-test.true c.loop-i.invariant _ c.digit-d.ensures c.if-base-d.false
-
-pub returns : goal.returns
-returns c = number_good _ _ _ c.if-s-eq0.false c.if-s-gt8.false (read_all _ _ _ _ c.loop-i-test.false c.loop-i.invariant)

@@ -65,8 +65,8 @@ module _ (x : World) (a : Access) (r : Answer) (y : World) (c : ReadCalled x a r
         answers = read_gives.answer;
         leaves =
             same_world y.state (step x a).answer.state y.memory (step x a).memory y.picture (step x a).picture
-            (c.state-left ∙ ap (λ (q : Answer). q.state) read_gives.answer) (c.memory-left ∙ sym c.memory ∙ read_gives.memory)
-            (c.picture-left ∙ sym c.picture ∙ read_gives.picture);
+            (c.state_left ∙ ap (λ (q : Answer). q.state) read_gives.answer) (c.memory_left ∙ sym c.memory ∙ read_gives.memory)
+            (c.picture_left ∙ sym c.picture ∙ read_gives.picture);
       }
 
 module _ (x : World) (a : Access) (r : Answer) (y : World) (c : WriteCalled x a r y) where
@@ -90,7 +90,7 @@ module _ (x : World) (a : Access) (r : Answer) (y : World) (c : WriteCalled x a 
         answers = write_gives.answer;
         leaves =
             same_world y.state (step x a).answer.state y.memory (step x a).memory y.picture (step x a).picture
-            (c.state-left ∙ ap (λ (q : Answer). q.state) write_gives.answer) (c.memory-left ∙ write_gives.memory) (c.picture-left ∙ write_gives.picture);
+            (c.state_left ∙ ap (λ (q : Answer). q.state) write_gives.answer) (c.memory_left ∙ write_gives.memory) (c.picture_left ∙ write_gives.picture);
       }
 
 module _ (x : World) (a : Access) (r : Answer) (y : World) (c : LookCalled x a r y) where
@@ -137,7 +137,7 @@ module _ (x : World) (a : Access) (r : Answer) (y : World) (c : LentReadCalled x
       let g : Gives (step x a) (replied (state_of c.args.0 c.args.1.0 c.args.1.1.0 c.args.1.1.1.0 c.exit.1.1.1.1.0.now c.args.1.1.1.1.1.0.now c.args.1.1.1.1.1.1.0.now c.exit.1.1.1.1.1.1.1.0.now) c.result) c.args.1.1.1.1.1.1.1.1.1.1.1.0.now c.args.1.1.1.1.1.1.1.1.1.1.1.1.0.now =
       subst (λ (q : Outcome). Gives q (replied (state_of c.args.0 c.args.1.0 c.args.1.1.0 c.args.1.1.1.0 c.exit.1.1.1.1.0.now c.args.1.1.1.1.1.0.now c.args.1.1.1.1.1.1.0.now c.exit.1.1.1.1.1.1.1.0.now) c.result) c.args.1.1.1.1.1.1.1.1.1.1.1.0.now c.args.1.1.1.1.1.1.1.1.1.1.1.1.0.now) o c.post in
       record {
-        answer = c.answer ∙ ap (λ (s : State). replied s c.result) c.state-left ∙ g.answer;
+        answer = c.answer ∙ ap (λ (s : State). replied s c.result) c.state_left ∙ g.answer;
         memory = sym c.memory ∙ g.memory;
         picture = sym c.picture ∙ g.picture;
       }
@@ -149,8 +149,8 @@ module _ (x : World) (a : Access) (r : Answer) (y : World) (c : LentReadCalled x
         answers = lent_read_gives.answer;
         leaves =
             same_world y.state (step x a).answer.state y.memory (step x a).memory y.picture (step x a).picture
-            (sym (ap (λ (q : Answer). q.state) c.answer) ∙ ap (λ (q : Answer). q.state) lent_read_gives.answer) (c.memory-left ∙ lent_read_gives.memory)
-            (c.picture-left ∙ lent_read_gives.picture);
+            (sym (ap (λ (q : Answer). q.state) c.answer) ∙ ap (λ (q : Answer). q.state) lent_read_gives.answer) (c.memory_left ∙ lent_read_gives.memory)
+            (c.picture_left ∙ lent_read_gives.picture);
       }
 
 module _ (x : World) (a : Access) (r : Answer) (y : World) (c : LentWriteCalled x a r y) where
@@ -167,9 +167,9 @@ module _ (x : World) (a : Access) (r : Answer) (y : World) (c : LentWriteCalled 
       let g : Gives (step x a) (wrote (state_of c.args.0 c.args.1.0 c.args.1.1.0 c.exit.1.1.1.0.now c.exit.1.1.1.1.0.now c.exit.1.1.1.1.1.0.now c.exit.1.1.1.1.1.1.0.now c.exit.1.1.1.1.1.1.1.0.now) c.result) c.exit.1.1.1.1.1.1.1.1.1.1.1.1.0.now c.exit.1.1.1.1.1.1.1.1.1.1.1.1.1.0.now =
       subst (λ (q : Outcome). Gives q (wrote (state_of c.args.0 c.args.1.0 c.args.1.1.0 c.exit.1.1.1.0.now c.exit.1.1.1.1.0.now c.exit.1.1.1.1.1.0.now c.exit.1.1.1.1.1.1.0.now c.exit.1.1.1.1.1.1.1.0.now) c.result) c.exit.1.1.1.1.1.1.1.1.1.1.1.1.0.now c.exit.1.1.1.1.1.1.1.1.1.1.1.1.1.0.now) o c.post in
       record {
-        answer = c.answer ∙ ap (λ (s : State). wrote s c.result) c.state-left ∙ g.answer;
-        memory = c.memory-left ∙ g.memory;
-        picture = c.picture-left ∙ g.picture;
+        answer = c.answer ∙ ap (λ (s : State). wrote s c.result) c.state_left ∙ g.answer;
+        memory = c.memory_left ∙ g.memory;
+        picture = c.picture_left ∙ g.picture;
       }
 
   lent_write_agrees : Agrees x a r y
@@ -235,7 +235,7 @@ module _ (w h : ℕ) (m p : List ℕ) (r : Opened) (y : World) (c : ValueOpenCal
       ∙ ap₂ (λ (u v : List ℕ). open_of w h u v) c.memory c.picture in
       let g : Opens (open_of w h m p) c.result c.exit.1.1.0.now c.exit.1.1.1.0.now =
       subst (λ (q : Opening). Opens q c.result c.exit.1.1.0.now c.exit.1.1.1.0.now) o c.post in
-      record { answer = sym c.answer ∙ g.answer; memory = c.memory-left ∙ g.memory; picture = c.picture-left ∙ g.picture }
+      record { answer = sym c.answer ∙ g.answer; memory = c.memory_left ∙ g.memory; picture = c.picture_left ∙ g.picture }
 
 module _ (w h : ℕ) (m p : List ℕ) (r : Opened) (y : World) (c : LentOpenCalled w h m p r y) where
   lent_opens : Opens (open_of w h m p) r y.memory y.picture
@@ -245,14 +245,14 @@ module _ (w h : ℕ) (m p : List ℕ) (r : Opened) (y : World) (c : LentOpenCall
       let s : State = state_of c.exit.0.now c.exit.1.0.now c.exit.1.1.0.now c.exit.1.1.1.0.now c.exit.1.1.1.1.0.now c.exit.1.1.1.1.1.0.now c.exit.1.1.1.1.1.1.0.now c.exit.1.1.1.1.1.1.1.0.now in
       let g : Opens (open_of w h m p) (parts.opened s c.result) c.exit.1.1.1.1.1.1.1.1.1.1.0.now c.exit.1.1.1.1.1.1.1.1.1.1.1.0.now =
       subst (λ (q : Opening). Opens q (parts.opened s c.result) c.exit.1.1.1.1.1.1.1.1.1.1.0.now c.exit.1.1.1.1.1.1.1.1.1.1.1.0.now) o c.post in
-      record { answer = c.answer ∙ ap (λ (z : State). parts.opened z c.result) c.state-left ∙ g.answer; memory = c.memory-left ∙ g.memory; picture = c.picture-left ∙ g.picture }
+      record { answer = c.answer ∙ ap (λ (z : State). parts.opened z c.result) c.state_left ∙ g.answer; memory = c.memory_left ∙ g.memory; picture = c.picture_left ∙ g.picture }
 
 opens : (w h : ℕ) (m p : List ℕ) (r : Opened) (y : World) → OpenCalled w h m p r y → Opens (open_of w h m p) r y.memory y.picture
 opens w h m p r y (of_open c) = value_opens w h m p r y c
 opens w h m p r y (of_lent_open c) = lent_opens w h m p r y c
 
 open_state : (w h : ℕ) (m p : List ℕ) (r : Opened) (y : World) → OpenCalled w h m p r y → y.state ≡ r.state
-open_state w h m p r y (of_open c) = c.state-left
+open_state w h m p r y (of_open c) = c.state_left
 open_state w h m p r y (of_lent_open c) = sym (ap (λ (q : Opened). q.state) c.answer)
 
 module _ (w h : ℕ) (m p : List ℕ) (r : Opened) (y : World) (c : OpenCalled w h m p r y) where
@@ -267,10 +267,14 @@ module _ (w h : ℕ) (m p : List ℕ) (r : Opened) (y : World) (c : OpenCalled w
 
 pub calls_leave : (x : World) (l : List Access) (rs : List Answer) (z : World) → Calls x l rs z → z ≡ run x l
 calls_leave x [] [] z (none y) = refl
+calls_leave x [] (r ∷ rs) z c = elim c [ ]
+calls_leave x (a ∷ l) [] z c = elim c [ ]
 calls_leave x (a ∷ l) (r ∷ rs) z (more u b q y k qs v c d) = calls_leave y l rs z d ∙ ap (λ (w : World). run w l) (call_leaves x a r y c)
 
 pub calls_answer : (x : World) (l : List Access) (rs : List Answer) (z : World) → Calls x l rs z → rs ≡ answers_of x l
 calls_answer x [] [] z (none y) = refl
+calls_answer x [] (r ∷ rs) z c = elim c [ ]
+calls_answer x (a ∷ l) [] z c = elim c [ ]
 calls_answer x (a ∷ l) (r ∷ rs) z (more u b q y k qs v c d) =
     ap₂ (λ (h : Answer) (t : List Answer). h ∷ t) (call_answers x a r y c)
     (calls_answer y l rs z d ∙ ap (λ (w : World). answers_of w l) (call_leaves x a r y c))

@@ -3,7 +3,7 @@
 use Prim.Native.Nat.{ℕ}
 use mathlib.Core.List.{List, [], ◌∷◌}
 use mathlib.Core.Path.{◌≡◌, refl, sym, ap, ap₂, subst, ◌∙◌}
-use denote.Ref.{Bor}
+use Rattle.std.proofs.Common.{Bor, MutBor}
 use Rattle.bits.proofs.Cases.{by_test}
 use Rattle.chip.specs.declared.State.{State}
 use Rattle.chip.specs.declared.Access.{Access}
@@ -24,9 +24,12 @@ use Rattle.promises.specs.Good.{Good}
 use Rattle.calls.proofs.Calls.{read_of, look_of_lem, write_of}
 use Rattle.calls.proofs.Promise11Code.{sure_read_call, sure_write_call}
 
--- a reference to m, at some place and under some ghost name
+-- a reference to m, at some place; and one to alter it by, under some ghost name
 abbrev ref : ℕ → List ℕ → Bor (List ℕ)
-ref n m = record { ref_ptr = (n, 0); ghost_name = n; now = m }
+ref n m = record { ref_ptr = (n, 0); now = m }
+
+abbrev lent : ℕ → List ℕ → MutBor (List ℕ)
+lent n m = record { ref_ptr = (n, 0); ghost_name = n; now = m }
 
 -- what a read, a write and a look give in the words of their contracts
 read_called : (x : World) (a : Access) → a.kind ≡ Read → ReadCalled x a (step x a).answer (after x a)
@@ -57,9 +60,9 @@ write_called x a k =
     let o = ap (step x) (write_of a k) in
     record {
       lifetimes = ([], ([], tt));
-      args = (x.state, (a.target, (a.offset, (a.enables, (a.word, (ref 0 x.memory, (ref 1 x.picture, tt)))))));
+      args = (x.state, (a.target, (a.offset, (a.enables, (a.word, (lent 0 x.memory, (lent 1 x.picture, tt)))))));
       result = (step x a).answer;
-      exit = (x.state, (a.target, (a.offset, (a.enables, (a.word, (ref 0 (step x a).memory, (ref 1 (step x a).picture, tt)))))));
+      exit = (x.state, (a.target, (a.offset, (a.enables, (a.word, (lent 0 (step x a).memory, (lent 1 (step x a).picture, tt)))))));
       post = subst (λ (q : Outcome). Gives q (step x a).answer (step x a).memory (step x a).picture) (sym o) (record { answer = refl; memory = refl; picture = refl });
       kind = k;
       state = refl;
@@ -108,9 +111,9 @@ open_called : (w h : ℕ) (m p : List ℕ) → ValueOpenCalled w h m p (open_of 
 open_called w h m p =
     record {
       lifetimes = ([], ([], tt));
-      args = (w, (h, (ref 0 m, (ref 1 p, tt))));
+      args = (w, (h, (lent 0 m, (lent 1 p, tt))));
       result = (open_of w h m p).answer;
-      exit = (w, (h, (ref 0 (open_of w h m p).memory, (ref 1 (open_of w h m p).picture, tt))));
+      exit = (w, (h, (lent 0 (open_of w h m p).memory, (lent 1 (open_of w h m p).picture, tt))));
       post = record { answer = refl; memory = refl; picture = refl };
       width = refl;
       height = refl;
@@ -125,7 +128,7 @@ open_called w h m p =
 -- ---- in place: the parts of a state, each at a place of its own
 
 -- a reference to a number
-abbrev num : ℕ → ℕ → Bor ℕ
+abbrev num : ℕ → ℕ → MutBor ℕ
 num n v = record { ref_ptr = (n, 0); ghost_name = n; now = v }
 
 -- what a read leaves, put together from the parts that it may alter
@@ -148,9 +151,9 @@ lent_read_called x a k =
     ap (λ (n : State). replied n (reply_in (step x a).answer)) e ∙ s in
     record {
       lifetimes = ([], ([], ([], tt)));
-      args = (x.state.width, (x.state.height, (x.state.fitted, (x.state.once, (ref 0 x.state.values, (ref 1 x.state.knowns, (ref 2 x.state.palette, (ref 3 (dac_bytes x.state.dac), (a.target, (a.offset, (a.enables, (ref 4 x.memory, (ref 5 x.picture, tt)))))))))))));
+      args = (x.state.width, (x.state.height, (x.state.fitted, (x.state.once, (lent 0 x.state.values, (ref 1 x.state.knowns, (ref 2 x.state.palette, (lent 3 (dac_bytes x.state.dac), (a.target, (a.offset, (a.enables, (ref 4 x.memory, (ref 5 x.picture, tt)))))))))))));
       result = reply_in (step x a).answer;
-      exit = (x.state.width, (x.state.height, (x.state.fitted, (x.state.once, (ref 0 (after x a).state.values, (ref 1 x.state.knowns, (ref 2 x.state.palette, (ref 3 (dac_bytes (after x a).state.dac), (a.target, (a.offset, (a.enables, (ref 4 x.memory, (ref 5 x.picture, tt)))))))))))));
+      exit = (x.state.width, (x.state.height, (x.state.fitted, (x.state.once, (lent 0 (after x a).state.values, (ref 1 x.state.knowns, (ref 2 x.state.palette, (lent 3 (dac_bytes (after x a).state.dac), (a.target, (a.offset, (a.enables, (ref 4 x.memory, (ref 5 x.picture, tt)))))))))))));
       post = subst (λ (q : Outcome). Gives q (replied (made x.state.width x.state.height x.state.fitted x.state.once (after x a).state.values x.state.knowns x.state.palette (after x a).state.dac) (reply_in (step x a).answer)) x.memory x.picture) (sym (read_of x a k)) (record { answer = z; memory = sym l.memory; picture = sym l.picture });
       kind = k;
       state = refl;
@@ -184,9 +187,9 @@ lent_write_called x a k =
     ap (λ (n : State). wrote n (wrote_in (step x a).answer)) e ∙ s in
     record {
       lifetimes = ([], ([], ([], ([], ([], ([], ([], tt)))))));
-      args = (x.state.width, (x.state.height, (x.state.fitted, (num 6 x.state.once, (ref 0 x.state.values, (ref 1 x.state.knowns, (ref 2 x.state.palette, (ref 3 (dac_bytes x.state.dac), (a.target, (a.offset, (a.enables, (a.word, (ref 4 x.memory, (ref 5 x.picture, tt))))))))))))));
+      args = (x.state.width, (x.state.height, (x.state.fitted, (num 6 x.state.once, (lent 0 x.state.values, (lent 1 x.state.knowns, (lent 2 x.state.palette, (lent 3 (dac_bytes x.state.dac), (a.target, (a.offset, (a.enables, (a.word, (lent 4 x.memory, (lent 5 x.picture, tt))))))))))))));
       result = wrote_in (step x a).answer;
-      exit = (x.state.width, (x.state.height, (x.state.fitted, (num 6 (after x a).state.once, (ref 0 (after x a).state.values, (ref 1 (after x a).state.knowns, (ref 2 (after x a).state.palette, (ref 3 (dac_bytes (after x a).state.dac), (a.target, (a.offset, (a.enables, (a.word, (ref 4 (step x a).memory, (ref 5 (step x a).picture, tt))))))))))))));
+      exit = (x.state.width, (x.state.height, (x.state.fitted, (num 6 (after x a).state.once, (lent 0 (after x a).state.values, (lent 1 (after x a).state.knowns, (lent 2 (after x a).state.palette, (lent 3 (dac_bytes (after x a).state.dac), (a.target, (a.offset, (a.enables, (a.word, (lent 4 (step x a).memory, (lent 5 (step x a).picture, tt))))))))))))));
       post = subst (λ (q : Outcome). Gives q (wrote (made x.state.width x.state.height x.state.fitted (after x a).state.once (after x a).state.values (after x a).state.knowns (after x a).state.palette (after x a).state.dac) (wrote_in (step x a).answer)) (step x a).memory (step x a).picture) (sym o) (record { answer = z; memory = refl; picture = refl });
       kind = k;
       state = refl;
@@ -236,9 +239,9 @@ lent_open_called w h m p =
     let s = (open_of w h m p).answer.state in
     record {
       lifetimes = ([], ([], ([], ([], ([], ([], ([], ([], ([], ([], tt))))))))));
-      args = (num 6 s.width, (num 7 s.height, (num 8 s.fitted, (num 9 s.once, (ref 0 s.values, (ref 1 s.knowns, (ref 2 s.palette, (ref 3 (dac_bytes s.dac), (w, (h, (ref 4 m, (ref 5 p, tt))))))))))));
+      args = (num 6 s.width, (num 7 s.height, (num 8 s.fitted, (num 9 s.once, (lent 0 s.values, (lent 1 s.knowns, (lent 2 s.palette, (lent 3 (dac_bytes s.dac), (w, (h, (lent 4 m, (lent 5 p, tt))))))))))));
       result = (open_of w h m p).answer.status;
-      exit = (num 6 s.width, (num 7 s.height, (num 8 s.fitted, (num 9 s.once, (ref 0 s.values, (ref 1 s.knowns, (ref 2 s.palette, (ref 3 (dac_bytes s.dac), (w, (h, (ref 4 (open_of w h m p).memory, (ref 5 (open_of w h m p).picture, tt))))))))))));
+      exit = (num 6 s.width, (num 7 s.height, (num 8 s.fitted, (num 9 s.once, (lent 0 s.values, (lent 1 s.knowns, (lent 2 s.palette, (lent 3 (dac_bytes s.dac), (w, (h, (lent 4 (open_of w h m p).memory, (lent 5 (open_of w h m p).picture, tt))))))))))));
       post = record { answer = refl; memory = refl; picture = refl };
       width = refl;
       height = refl;

@@ -39,9 +39,9 @@ read_tested x a r y c q =
       memory = c.memory;
       picture = c.picture;
       answer = c.answer;
-      state_left = c.state-left;
-      memory_left = c.memory-left;
-      picture_left = c.picture-left;
+      state_left = c.state_left;
+      memory_left = c.memory_left;
+      picture_left = c.picture_left;
     }
 
 read_untested : (x : World) (a : Access) (r : Answer) (y : World) (c : LentReadCalled x a r y) → sure-reading-reads.Post c.lifetimes c.args c.result c.exit → SureReadCalled x a r y
@@ -60,9 +60,9 @@ read_untested x a r y c q =
       memory = c.memory;
       picture = c.picture;
       answer = c.answer;
-      state_left = c.state-left;
-      memory_left = c.memory-left;
-      picture_left = c.picture-left;
+      state_left = c.state_left;
+      memory_left = c.memory_left;
+      picture_left = c.picture_left;
     }
 
 write_tested : (x : World) (a : Access) (r : Answer) (y : World) (c : SureWriteCalled x a r y) → lent-writing-reads.Post c.lifetimes c.args c.result c.exit → LentWriteCalled x a r y
@@ -82,9 +82,9 @@ write_tested x a r y c q =
       memory = c.memory;
       picture = c.picture;
       answer = c.answer;
-      state_left = c.state-left;
-      memory_left = c.memory-left;
-      picture_left = c.picture-left;
+      state_left = c.state_left;
+      memory_left = c.memory_left;
+      picture_left = c.picture_left;
     }
 
 write_untested : (x : World) (a : Access) (r : Answer) (y : World) (c : LentWriteCalled x a r y) → sure-writing-reads.Post c.lifetimes c.args c.result c.exit → SureWriteCalled x a r y
@@ -104,9 +104,9 @@ write_untested x a r y c q =
       memory = c.memory;
       picture = c.picture;
       answer = c.answer;
-      state_left = c.state-left;
-      memory_left = c.memory-left;
-      picture_left = c.picture-left;
+      state_left = c.state_left;
+      memory_left = c.memory_left;
+      picture_left = c.picture_left;
     }
 
 module _ (x : World) (g : Good x) where
@@ -136,6 +136,8 @@ module _ (x : World) (g : Good x) where
 -- so along every list, since a good world stays one
 pub sure_calls : (x : World) (l : List Access) (rs : List Answer) (z : World) → Good x → SureCalls x l rs z → Calls x l rs z
 sure_calls x [] [] z g (none y) = tested.none y
+sure_calls x [] (r ∷ rs) z g c = elim c [ ]
+sure_calls x (a ∷ l) [] z g c = elim c [ ]
 sure_calls x (a ∷ l) (r ∷ rs) z g (more u b q y k qs v c d) =
     let e = sure_call x g a r y c in
     tested.more x a r y l rs z e (sure_calls y l rs z (call_good x a r y e g) d)

@@ -30,7 +30,6 @@ use Rattle.chip.specs.Picture.{diffs}
 use Rattle.chip.specs.Trace.{World, step, after}
 use Rattle.chip.proofs.Redraw.{diffs_self}
 use Rattle.promises.specs.Reach.{reach_at}
-use Rattle.promises.specs.Places.{address, palette, header}
 use Rattle.promises.specs.History.{is_aim, is_data}
 use Rattle.promises.specs.Refusals.{Words}
 use Rattle.promises.specs.View.{StepsOnly, Idle}

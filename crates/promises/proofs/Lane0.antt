@@ -33,7 +33,7 @@ use Rattle.chip.specs.Trace.{World, step}
 use Rattle.chip.proofs.Computed.{computed}
 use Rattle.promises.specs.Good.{Good, status_at}
 use Rattle.promises.specs.Reach.{reach_at}
-use Rattle.promises.specs.Places.{Leads, address, palette, indexed, region, one, two, header, blank}
+use Rattle.promises.specs.Places.{Leads, indexed, region, one, two, header, blank}
 use Rattle.promises.specs.History.{Seeing, is_aim, is_data}
 use Rattle.promises.specs.Refusals.{free_bit, IsState, Words}
 use Rattle.promises.specs.View.{Idle}

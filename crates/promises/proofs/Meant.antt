@@ -6,7 +6,6 @@ use mathlib.Core.Logic.{◌↔◌, ◌⊎◌, inl, inr}
 use mathlib.Core.Option.{Option, none, some}
 use mathlib.Core.Path.{◌≡◌, refl, ap}
 use borrow.Author.Tests.{eqb-true, eq-eqb}
-use Rattle.bits.specs.Bit.{bit}
 use Rattle.bits.proofs.Cases.{by_test}
 use Rattle.bits.proofs.Bools.{and_first, and_second, clash, and_false}
 use Rattle.chip.specs.declared.Access.{Access}

@@ -158,7 +158,7 @@ module _ (b : ColumnState) (s : State) (q : Paired b s) where
 -- ---- after a store
 
 set_column : (l : List ℕ) (e v : ℕ) → Column l → v < 256 → Column (set l e v)
-set_column l e v c h = record { length_is = length-set l e v ∙ c.length-is; bytes = set_lt l e v 256 c.bytes h }
+set_column l e v c h = record { length_is = length-set l e v ∙ c.length_is; bytes = set_lt l e v 256 c.bytes h }
 
 module _ (b : ColumnState) (s : State) (q : Paired b s) where
   -- the stored entry's word is its four bytes, and another entry stays

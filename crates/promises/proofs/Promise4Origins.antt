@@ -10,17 +10,16 @@ use mathlib.Core.Option.{none, some}
 use mathlib.Core.Path.{◌≡◌, sym, ap, ◌∙◌}
 use native.Mathlib.Omega.{arith}
 use lib.ListN.{get_or, length}
-use Rattle.bits.specs.Bit.{bit}
 use Rattle.chip.specs.declared.State.{State}
 use Rattle.chip.specs.declared.Access.{Access}
 use Rattle.chip.specs.declared.Colour.{Colour}
 use Rattle.chip.specs.Palette.{entry_count, entry_of}
 use Rattle.chip.specs.Dac.{reset_dac}
 use Rattle.chip.specs.State.{reset_state}
-use Rattle.chip.specs.Trace.{World, opened, step, after, run}
+use Rattle.chip.specs.Trace.{World, opened, after, run}
 use Rattle.promises.specs.Good.{Good, Openable}
 use Rattle.promises.specs.Along.{runs, last_put, PutLast, PutNever}
-use Rattle.promises.specs.History.{shows, Spot, Real, holds, stated, aim_put}
+use Rattle.promises.specs.History.{Spot, Real, holds, stated, aim_put}
 use Rattle.promises.specs.Frame.{byte_put}
 use Rattle.promises.specs.Origin.{SetBy, bit_put, latest, BitStored, BitStated, ByteStored, ByteLent, AddressSet, AddressAt}
 use Rattle.promises.specs.Loads.{NoLoad, Loaded}

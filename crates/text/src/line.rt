@@ -43,6 +43,7 @@ fn kind(s: &[u8], c: u8, looks: bool) -> Asked
     Asked::Bad
 }
 
+#[tactic(auto, using(crate::proofs::LineLaws::target_bad, crate::proofs::LineLaws::target_more))]
 fn target(s: &[u8], k: Kind) -> Asked
     ensures { result ≡ target_next k (fields_of s.now) }
 {

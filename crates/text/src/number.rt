@@ -30,6 +30,7 @@ pub(crate) fn digit(b: u8) -> u32
     16
 }
 
+#[tactic(auto, using(crate::proofs::NumberLaws::number_long, crate::proofs::NumberLaws::number_good, crate::proofs::NumberLaws::read_all))]
 pub(crate) fn number(base: u32, s: &[u8]) -> Field
     requires { base ≤ 16 }
     ensures { result ≡ number_of base s.now }

@@ -1,6 +1,8 @@
 // A picture as a binary PPM file: three bytes a dot, row after row.
 ghost use Rattle.std.specs.Prelude.{◌+◌, ◌*◌, ◌-◌, ◌≤◌, length};
 
+use std::io;
+use std::io::Write;
 use text::shown::colour;
 
 // How many dots are written at a time.
@@ -38,31 +40,29 @@ fn put_dots(picture: &[u32], from: usize, out: &mut [u8]) -> usize
     n
 }
 
-fn write_dots(fd: i32, picture: &[u32]) -> bool {
+fn write_dots<W: Write>(to: &mut W, picture: &[u32]) -> io::Result<()> {
     let mut from = 0;
     while from < picture.len() {
         let mut out = [0u8; 3072];
         let n = put_dots(picture, from, &mut out);
         if n == 0 {
-            return true;
+            return Ok(());
         }
         let size = 3 * n;
-        if !io::write_all(fd, &out[..size]) {
-            return false;
-        }
+        to.write_all(&out[..size])?;
         from += n;
     }
-    true
+    Ok(())
 }
 
-// A number and the text behind it.
-fn write_number(fd: i32, n: u32, text: &[u8]) -> bool {
-    io::print_decimal(fd, n as u64) && io::write_all(fd, text)
-}
-
-pub(crate) fn write_picture(fd: i32, width: u32, height: u32, picture: &[u32]) -> bool {
-    io::write_all(fd, b"P6\n")
-        && write_number(fd, width, b" ")
-        && write_number(fd, height, b"\n255\n")
-        && write_dots(fd, picture)
+pub(crate) fn write_picture<W: Write>(
+    to: &mut W,
+    width: u32,
+    height: u32,
+    picture: &[u32],
+) -> io::Result<()> {
+    to.write_all(b"P6\n")?;
+    write!(to, "{width} ")?;
+    write!(to, "{height}\n255\n")?;
+    write_dots(to, picture)
 }

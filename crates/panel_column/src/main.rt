@@ -1,6 +1,6 @@
 // The panel program on a panel of one column.
 #![tactic(auto)]
 
-fn main() {
-    console::panel::panel();
+fn main(rt: HostRuntime) {
+    console::panel::panel(rt);
 }

@@ -3,12 +3,15 @@
 
 mod rows; // rows.rt: one register a row
 
-fn main() {
-    if console::program::begin(0, b"usage: register_map\n") {
-        rows::region(false);
-        rows::header(false);
-        rows::indirect(false);
-        rows::table();
-        console::program::end();
+use console::say::Output;
+
+fn main(rt: HostRuntime) {
+    if console::program::begin(rt, 0, b"usage: register_map\n") {
+        let mut out = Output::new(rt);
+        rows::region(&mut out, false);
+        rows::header(&mut out, false);
+        rows::indirect(&mut out, false);
+        rows::table(&mut out);
+        console::program::end(&mut out);
     }
 }

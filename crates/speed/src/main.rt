@@ -6,7 +6,7 @@ use chip::State;
 use console::clock::microseconds;
 use console::complain::complain;
 use console::program::{begin, end, has_argument, is_argument};
-use console::say::{say, say_number};
+use console::say::{Output, say, say_number};
 
 fn put(s: State, offset: u32, word: u32, memory: &mut [u8], picture: &mut [u32]) -> State {
     let r = model::write::write(s, 0, offset, 15, word, memory, picture);
@@ -91,25 +91,33 @@ fn writes(s: State, step: u32, memory: &mut [u8], picture: &mut [u32]) -> u32 {
     dots
 }
 
-fn report(times: bool, t: u32, dots: u32) {
+fn report(out: &mut Output, times: bool, t: u32, dots: u32) {
     if times {
-        say_number(t);
-        say(b" microseconds, ");
+        say_number(out, t);
+        say(out, b" microseconds, ");
     }
-    say_number(dots);
-    say(b" dots changed\n");
+    say_number(out, dots);
+    say(out, b" dots changed\n");
 }
 
-fn timed(times: bool, s: State, step: u32, memory: &mut [u8], picture: &mut [u32]) -> u32 {
-    let a = microseconds();
+fn timed(
+    out: &mut Output,
+    times: bool,
+    s: State,
+    step: u32,
+    memory: &mut [u8],
+    picture: &mut [u32],
+) -> u32 {
+    let a = microseconds(out.rt());
     let dots = writes(s, step, memory, picture);
-    let b = microseconds();
+    let b = microseconds(out.rt());
     let t = std::num::wrapping_sub_u32(b, a);
-    report(times, t, dots);
+    report(out, times, t, dots);
     t
 }
 
 fn run(
+    out: &mut Output,
     times: bool,
     width: u32,
     height: u32,
@@ -119,49 +127,50 @@ fn run(
     picture: &mut [u32],
 ) -> u32 {
     let s = shown(width, height, stride, memory, picture);
-    timed(times, s, step, memory, picture)
+    timed(out, times, s, step, memory, picture)
 }
 
-fn small(times: bool) -> u32 {
+fn small(out: &mut Output, times: bool) -> u32 {
     let mut memory = [0u8; 16];
     let mut picture = [0u32; 4];
-    say(b"4 by 1: ");
-    run(times, 4, 1, 1, 0, &mut memory, &mut picture)
+    say(out, b"4 by 1: ");
+    run(out, times, 4, 1, 1, 0, &mut memory, &mut picture)
 }
 
-fn large(times: bool) -> u32 {
+fn large(out: &mut Output, times: bool) -> u32 {
     let mut memory = [0u8; 1048576];
     let mut picture = [0u32; 1048576];
-    say(b"1024 by 1024: ");
-    run(times, 1024, 1024, 128, 4, &mut memory, &mut picture)
+    say(out, b"1024 by 1024: ");
+    run(out, times, 1024, 1024, 128, 4, &mut memory, &mut picture)
 }
 
-fn ratio(a: u32, b: u32) {
+fn ratio(out: &mut Output, a: u32, b: u32) {
     if a != 0 {
-        say(b"ratio in percent: ");
-        console::say::say_number(((b as u64) * 100 / (a as u64) % 4294967296) as u32);
-        say(b"\n");
+        say(out, b"ratio in percent: ");
+        console::say::say_number(out, ((b as u64) * 100 / (a as u64) % 4294967296) as u32);
+        say(out, b"\n");
     }
 }
 
-fn measure(times: bool) {
-    let a = small(times);
-    let b = large(times);
+fn measure(out: &mut Output, times: bool) {
+    let a = small(out, times);
+    let b = large(out, times);
     if times {
-        ratio(a, b);
+        ratio(out, a, b);
     }
 }
 
-fn main() {
-    if !begin(1, b"usage: speed [counts]\n") {
+fn main(rt: HostRuntime) {
+    if !begin(rt, 1, b"usage: speed [counts]\n") {
         return;
     }
-    if !has_argument(1) {
-        measure(true);
-    } else if is_argument(1, b"counts") {
-        measure(false);
+    let mut out = Output::new(rt);
+    if !has_argument(rt, 1) {
+        measure(&mut out, true);
+    } else if is_argument(rt, 1, b"counts") {
+        measure(&mut out, false);
     } else {
-        complain(b"usage: speed [counts]\n");
+        complain(rt, b"usage: speed [counts]\n");
     }
-    end();
+    end(&mut out);
 }

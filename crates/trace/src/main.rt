@@ -1,6 +1,6 @@
 // The trace program (01, Values to check): accesses from standard input, one a line, and a line for each answer.
 #![tactic(auto)]
 
-fn main() {
-    console::trace::trace();
+fn main(rt: HostRuntime) {
+    console::trace::trace(rt);
 }

@@ -1,6 +1,6 @@
 // The trace program on a long random trace of the second program's.
 #![tactic(auto)]
 
-fn main() {
-    console::trace::trace();
+fn main(rt: HostRuntime) {
+    console::trace::trace(rt);
 }

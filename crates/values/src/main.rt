@@ -12,20 +12,23 @@ mod refusals; // refusals.rt: each refusal once
 mod access; // access.rt: offsets, enables and six-bit red
 mod looks; // looks.rt: a look and what follows it
 
-fn all() {
-    access::offsets();
-    access::enables();
-    access::six_bit_red();
-    limits::widths();
-    limits::heights();
-    limits::memories();
-    refusals::all();
-    looks::all();
+use console::say::Output;
+
+fn all(out: &mut Output) {
+    access::offsets(out);
+    access::enables(out);
+    access::six_bit_red(out);
+    limits::widths(out);
+    limits::heights(out);
+    limits::memories(out);
+    refusals::all(out);
+    looks::all(out);
 }
 
-fn main() {
-    if console::program::begin(0, b"usage: values\n") {
-        all();
-        console::program::end();
+fn main(rt: HostRuntime) {
+    if console::program::begin(rt, 0, b"usage: values\n") {
+        let mut out = Output::new(rt);
+        all(&mut out);
+        console::program::end(&mut out);
     }
 }

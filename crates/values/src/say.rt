@@ -1,61 +1,61 @@
 // A line for an opening, and one for an access.
 use chip::{Access, Kind, Opened};
-use console::say::{say, say_hex, say_number, say_word};
+use console::say::{Output, say, say_hex, say_number, say_word};
 
-fn panel(width: u32, height: u32) {
-    say_number(width);
-    say(b"x");
-    say_number(height);
-    say(b" ");
+fn panel(out: &mut Output, width: u32, height: u32) {
+    say_number(out, width);
+    say(out, b"x");
+    say_number(out, height);
+    say(out, b" ");
 }
 
-pub(crate) fn say_asked(width: u32, height: u32, memory: u32, picture: u32) {
-    say(b"open ");
-    panel(width, height);
-    say_number(memory);
-    say(b" ");
-    say_number(picture);
-    say(b" -> ");
+pub(crate) fn say_asked(out: &mut Output, width: u32, height: u32, memory: u32, picture: u32) {
+    say(out, b"open ");
+    panel(out, width, height);
+    say_number(out, memory);
+    say(out, b" ");
+    say_number(out, picture);
+    say(out, b" -> ");
 }
 
-pub(crate) fn say_opened(o: Opened) {
-    say_number(o.status);
-    say(b" ");
-    panel(o.state.width, o.state.height);
-    say_number(o.state.fitted);
-    say(b"\n");
+pub(crate) fn say_opened(out: &mut Output, o: &Opened) {
+    say_number(out, o.status);
+    say(out, b" ");
+    panel(out, o.state.width, o.state.height);
+    say_number(out, o.state.fitted);
+    say(out, b"\n");
 }
 
-fn say_kind(k: Kind) {
+fn say_kind(out: &mut Output, k: Kind) {
     match k {
-        Kind::Read => say(b"r "),
-        Kind::Write => say(b"w "),
-        Kind::Look => say(b"l "),
+        Kind::Read => say(out, b"r "),
+        Kind::Write => say(out, b"w "),
+        Kind::Look => say(out, b"l "),
     }
 }
 
-pub(crate) fn say_access(a: Access) {
+pub(crate) fn say_access(out: &mut Output, a: Access) {
     let k = a.kind;
-    say_kind(k);
-    say_number(a.target);
-    say(b" ");
-    say_hex(a.offset);
-    say(b" ");
-    say_hex(a.enables);
+    say_kind(out, k);
+    say_number(out, a.target);
+    say(out, b" ");
+    say_hex(out, a.offset);
+    say(out, b" ");
+    say_hex(out, a.enables);
     if k.is_write() {
-        say(b" ");
-        say_word(a.word);
+        say(out, b" ");
+        say_word(out, a.word);
     }
-    say(b" -> ");
+    say(out, b" -> ");
 }
 
-pub(crate) fn say_answer(status: u32, word: u32, known: u32, changed: u32) {
-    say_number(status);
-    say(b" ");
-    say_word(word);
-    say(b" ");
-    say_word(known);
-    say(b" ");
-    say_number(changed);
-    say(b"\n");
+pub(crate) fn say_answer(out: &mut Output, status: u32, word: u32, known: u32, changed: u32) {
+    say_number(out, status);
+    say(out, b" ");
+    say_word(out, word);
+    say(out, b" ");
+    say_word(out, known);
+    say(out, b" ");
+    say_number(out, changed);
+    say(out, b"\n");
 }

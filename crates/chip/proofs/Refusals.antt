@@ -1,5 +1,5 @@
 -- What holds of an access and of an opening that is not refused: each line of 01's table under its name.
--- From Lines.none-holds; no other file of this crate counts the lines. Assumes nothing.
+-- From Lines.none_holds; no other file of this crate counts the lines. Assumes nothing.
 use Rattle.std.proofs.Common.{◌≡◌, ℕ, ◌*◌, ◌%◌, ◌≤◌, true, ◌&&◌, eqb, leb, refl, eqb-true, leb-true}
 use borrow.Author.Tests.{not-false}
 use Rattle.bits.specs.Choose.{pick}

@@ -1,5 +1,5 @@
 -- What a read answers for a component of a loaded entry, as a word: the byte that was written, as the two widths have it, known in its eight bits.
--- The entry is the load's (entry-exactly), its component what the load's write stored, and a word of which eight bits are shown is that byte. Assumes nothing.
+-- The entry is the load's (entry_exactly), its component what the load's write stored, and a word of which eight bits are shown is that byte. Assumes nothing.
 use Prim.Native.Nat.{ℕ, ◌/◌, ◌<◌}
 use mathlib.Core.Bool.{false}
 use mathlib.Core.List.{List}

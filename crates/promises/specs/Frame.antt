@@ -109,7 +109,7 @@ made_colour s a = record { red = s.dac.red; green = s.dac.green; blue = stored_b
 -- ---- a memory byte
 
 -- the lane that memory byte o + i exchanges with, by the swap code in bits 0 and 1 of the aperture's control register: i, 3 − i where it is 1, (i + 2) mod 4 where
--- it is 2, for i from 0 to 3. The rule is its own inverse there: lane j exchanges with byte o + laneAt j
+-- it is 2, for i from 0 to 3. The rule is its own inverse there: lane j exchanges with byte o + lane_at j
 unfoldable pub lane_at : ℕ → ℕ → ℕ
 lane_at control i = pick (eqb (control % 4) 1) (3 - i) (pick (eqb (control % 4) 2) ((i + 2) % 4) i)
 

@@ -61,16 +61,9 @@ const EPIPE: i32 = 32;
 
 const ENAMETOOLONG: i32 = 36;
 
-const EILSEQ: i32 = 84;
-
 // What a descriptor that is not open for a call gives.
 pub(crate) fn not_open() -> io::Error {
     io::Error::from_raw_os_error(EBADF)
-}
-
-// What a name that is no text gives.
-pub(crate) fn no_text() -> io::Error {
-    io::Error::from_raw_os_error(EILSEQ)
 }
 
 // The system's reasons that a file, a full disk or a closed descriptor can give.
@@ -87,7 +80,6 @@ fn tell_reason(rt: HostRuntime, error: io::Error) {
         Some(EROFS) => tell(rt, b"it can only be read\n"),
         Some(EPIPE) => tell(rt, b"nobody reads it\n"),
         Some(ENAMETOOLONG) => tell(rt, b"the name is too long\n"),
-        Some(EILSEQ) => tell(rt, b"the name is not UTF-8\n"),
         _ => tell(rt, b"the system gave another reason\n"),
     }
 }

@@ -1,4 +1,4 @@
-// Standard input and output for the programs. Of the libraries this one alone rests on the contracts that the kit states for the C library.
+// Standard input and output for the programs. Of the libraries this one alone is handed the runtime, which rests on what the kit states of the C library.
 #![tactic(auto)]
 
 pub mod say; // say.rt: texts and numbers to standard output

@@ -1,7 +1,7 @@
 // The programs over a panel of any size: its lines in the trace's form or in words, and its picture as a file.
 ghost use Rattle.std.specs.Prelude.{◌≤◌, length};
 
-use crate::complain::{complain, complain_why, no_text, not_open};
+use crate::complain::{complain, complain_why, not_open};
 use crate::ppm::write_picture;
 use crate::program::{argument, begin, end, has_argument, is_argument};
 use crate::say::{Output, kept, say, say_number};
@@ -32,18 +32,17 @@ enum Target {
     Made(File),
 }
 
-// A file's name has to be UTF-8.
-fn created(rt: HostRuntime, name: &[u8]) -> io::Result<File> {
-    match str::from_utf8(name) {
-        Ok(name) => File::create(&rt, name),
-        Err(_) => Err(no_text()),
-    }
-}
-
 fn made_file(rt: HostRuntime, i: usize) -> Option<Target> {
     let mut room = [0u8; 4096];
     let n = argument(rt, i, &mut room);
-    match created(rt, &room[..n]) {
+    let Ok(name) = str::from_utf8(&room[..n]) else {
+        complain(
+            rt,
+            b"the picture's file can't be written: its name is not UTF-8\n",
+        );
+        return None;
+    };
+    match File::create(&rt, name) {
         Ok(file) => Some(Target::Made(file)),
         Err(error) => {
             complain_why(rt, b"the picture's file can't be written", error);
@@ -81,10 +80,14 @@ fn write_behind(out: &mut Output, width: u32, height: u32, picture: &[u32]) -> i
     write_picture(&mut out.rt.stdout(), width, height, picture)
 }
 
-// Some file systems say only after the last write that they lost what they took.
+// Closes a file that was made. Some file systems say only here that they lost what they took.
+fn closed(file: File) -> io::Result<()> {
+    kept(&file)
+}
+
 fn write_file(mut file: File, width: u32, height: u32, picture: &[u32]) -> io::Result<()> {
     write_picture(&mut file, width, height, picture)?;
-    kept(&file)
+    closed(file)
 }
 
 fn finish(out: &mut Output, to: Target, width: u32, height: u32, picture: &[u32]) {

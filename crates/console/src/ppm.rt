@@ -55,6 +55,12 @@ fn write_dots<W: Write>(to: &mut W, picture: &[u32]) -> io::Result<()> {
     Ok(())
 }
 
+// A number and the text behind it.
+fn write_number<W: Write>(to: &mut W, n: u32, text: &[u8]) -> io::Result<()> {
+    write!(to, "{n}")?;
+    to.write_all(text)
+}
+
 pub(crate) fn write_picture<W: Write>(
     to: &mut W,
     width: u32,
@@ -62,7 +68,7 @@ pub(crate) fn write_picture<W: Write>(
     picture: &[u32],
 ) -> io::Result<()> {
     to.write_all(b"P6\n")?;
-    write!(to, "{width} ")?;
-    write!(to, "{height}\n255\n")?;
+    write_number(to, width, b" ")?;
+    write_number(to, height, b"\n255\n")?;
     write_dots(to, picture)
 }

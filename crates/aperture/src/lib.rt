@@ -27,6 +27,7 @@ pub fn mode_served(control: u32) -> bool
 
 // The lane that memory byte o + i exchanges with, by the swap code (01, Apertures): i, 3 − i byte swapped, (i + 2) mod 4 half-word swapped. It is also the byte
 // of lane i: the rule is its own inverse. Past 3 there is none: what it gives there is what the definition gives.
+#[tactic(auto, using(crate::proofs::LaneLaws::turned, crate::proofs::LaneLaws::crossed, crate::proofs::LaneLaws::straight))]
 pub fn lane_of(swap: u32, i: u32) -> u32
     ensures { result ≡ lane_of swap i }
 {

@@ -8,6 +8,7 @@ ghost use Rattle.chip.specs.Step.{blank_word};
 use chip::{DAC_BYTES, ROWS};
 
 // The number of the refusal, or 0, in the order 8, 9, 2.
+#[tactic(auto, using(crate::proofs::OpenLaws::line_eight, crate::proofs::OpenLaws::line_nine, crate::proofs::OpenLaws::line_size, crate::proofs::OpenLaws::line_none))]
 pub(crate) fn open_status(width: u32, height: u32, memory: u64, picture: u64) -> u32
     ensures { result ≡ opening_status width height memory picture }
 {

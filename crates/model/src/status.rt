@@ -75,6 +75,7 @@ fn form_ok(a: Access) -> bool
 }
 
 // Lines 3 and on.
+#[tactic(auto, using(crate::proofs::TestLaws::line_three, crate::proofs::TestLaws::line_four, crate::proofs::TestLaws::after_four))]
 fn form_status(fitted: u32, values: &[u32; ROWS], a: Access, p: Place) -> u32
     ensures { (w h o : ℕ) (ks q : List ℕ) (d : Dac) → result ≡ first_of (later_from (port_at (made w h fitted o values.now ks q d) a p) a) }
 {

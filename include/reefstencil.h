@@ -5,7 +5,7 @@
  * steps to the next component, as the chip's does; a look gives the same answer and alters nothing.
  * Nothing else is kept anywhere, so that a state can be copied, stored and gone back to, and two chips never meet.
  *
- * The archive that `rt staticlib reefstencil` writes, target/staticlib/libreefstencil.a, is for x86-64 Linux (System V calls). It calls nothing
+ * The archive that `tools/staticlib reefstencil` writes, target/staticlib/libreefstencil.a, is for x86-64 Linux (System V calls). It calls nothing
  * but memcpy, memmove and memset. `tools/install-c PREFIX` installs it with this header.
  *
  * This is the second edition (PM_ABI). In the first a state went in and came back by value; now it is a struct of the caller's, lent by pointer. The

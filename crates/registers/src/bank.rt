@@ -10,8 +10,8 @@ ghost use Rattle.registers.specs.Columns.{in_set};
 ghost use Rattle.registers.specs.Written.{RowWritten, BankReset};
 
 use super::subsystem::{half_bits, once_after, once_moved};
-use super::table::{columns_sound, put_word};
-use bits::{bit_of, bits_inside, bits_joined, bits_merged, bits_outside, lanes_of};
+use super::table::columns_sound;
+use bits::{bit_of, bits_inside, bits_joined, bits_merged, bits_outside, lanes_of, put_at};
 use chip::{Access, COMMAND, ROWS, SUBSYSTEM};
 
 // The directions, a bit for each row: the rows that are read, and the rows that are written.
@@ -456,7 +456,8 @@ pub fn held(column: &[u32; ROWS], i: usize) -> u32
     column.get(i).copied().unwrap_or(0)
 }
 
-// A write of register i, in place: these bits of it take the word's, and become known. Past the bank's end nothing is stored.
+// A write of register i, in place: these bits of it take the word's, and become known. Past the bank's end nothing is stored. The parts are lent one by one,
+// as the C interface lends them (lent::write).
 pub fn write_row(
     once: &mut u32,
     values: &mut [u32; ROWS],
@@ -471,8 +472,8 @@ pub fn write_row(
     let word = brought_word(i, a.word);
     let v = bits_merged(held(values, i), word, bits);
     let k = bits_joined(held(knowns, i), bits);
-    put_word(values, i, v);
-    put_word(knowns, i, k);
+    put_at(values, i, v);
+    put_at(knowns, i, k);
     *once = fixed_after(o, i, a.enables);
 }
 

@@ -2,6 +2,5 @@ pub mod Searches
 pub mod Flags
 pub mod Rows
 pub mod PackedEntries
-pub mod Places
 pub mod OneOutcome
 pub mod FaultLaws

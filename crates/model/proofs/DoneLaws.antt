@@ -4,9 +4,11 @@ use Prim.Native.Nat.{ℕ, ◌*◌}
 use mathlib.Core.Bool.{Bool, true, false}
 use mathlib.Core.List.{List}
 use mathlib.Core.Path.{◌≡◌, refl, sym, ap, ap₂, ◌∙◌, subst}
+use native.Mathlib.Omega.{arith}
 use borrow.Author.Tests.{eq-eqb, ne_eqb}
 use lib.Dec.{eqb}
 use lib.ListN.{length}
+use Rattle.std.specs.Prelude.{Result, Ok, Err, IsErrAnd, ⊤}
 use Rattle.bits.specs.Choose.{pick}
 use Rattle.bits.specs.Word.{lanes_of}
 use Rattle.bits.proofs.Cases.{by_test}
@@ -20,6 +22,9 @@ use Rattle.chip.specs.declared.Seen.{Seen}
 use Rattle.chip.specs.declared.Kind.TheVariants.{Read, Write, Look}
 use Rattle.chip.specs.declared.Place.{Place}
 use Rattle.chip.specs.Aperture.{put_all}
+use Rattle.chip.specs.declared.Refusal.{Refusal}
+use Rattle.chip.specs.declared.Refusal.TheVariants.{NotState, Length, Form, Offset, Absent, Direction, Mode, Panel, Memory}
+use Rattle.chip.specs.Status.{number_of}
 use Rattle.chip.specs.Parts.{replied}
 use Rattle.chip.specs.Sound.{panel_ok, is_state}
 use Rattle.chip.specs.Patch.{Patch, applied, memory_with}
@@ -37,6 +42,23 @@ use Rattle.model.specs.Places.{reply_of, panel_fits, Puts}
 use Rattle.model.specs.Stages.{later_at}
 use Rattle.model.proofs.TestLaws.{later_is, lent_size}
 use Rattle.model.proofs.QuietLaws.{quiet_read}
+
+-- no refusal has the number of what is done
+pub refusal_counts : (why : Refusal) → number_of why ≡ 0 → ⊥
+refusal_counts NotState h = absurd (omega arith)
+refusal_counts Length h = absurd (omega arith)
+refusal_counts Form h = absurd (omega arith)
+refusal_counts Offset h = absurd (omega arith)
+refusal_counts Absent h = absurd (omega arith)
+refusal_counts Direction h = absurd (omega arith)
+refusal_counts Mode h = absurd (omega arith)
+refusal_counts Panel h = absurd (omega arith)
+refusal_counts Memory h = absurd (omega arith)
+
+-- what `?` gives where an outcome is refused
+pub err_is : {E : Type 0} {r : Result ⊤ E} {P : E → Type 0} (x : E) → IsErrAnd r P → ((e : E) → P e → e ≡ x) → r ≡ Err x
+err_is {r = Ok y} x h p = absurd h
+err_is {r = Err e} x h p = ap Err (p e h)
 
 -- ---- a new state settled
 

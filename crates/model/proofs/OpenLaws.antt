@@ -1,16 +1,13 @@
--- The refusals of an opening line by line, the reset state from its parts, the fill of the picture, and the opening put together.
--- By cases on the tests, field by field, and dot by dot. Assumes nothing.
-use Prim.Native.Nat.{ℕ, ◌+◌, ◌*◌, ◌%◌, ◌<◌, ◌≤◌}
+-- The refusals of an opening line by line, the reset state from its parts, and the opening put together.
+-- By cases on the tests, and field by field. Assumes nothing.
+use Prim.Native.Nat.{ℕ, ◌*◌, ◌%◌, ◌≤◌}
 use mathlib.Core.Bool.{Bool, true, false, ◌&&◌}
 use mathlib.Core.List.{List}
 use mathlib.Core.Path.{◌≡◌, refl, sym, ap, ap₂, ◌∙◌, subst}
-use native.Mathlib.Omega.{arith}
-use borrow.Author.Tests.{eqb-true, eqb-false, eq-eqb, ne_eqb, leb-true}
+use borrow.Author.Tests.{eq-eqb, ne_eqb, leb-true}
 use lib.Dec.{eqb, leb}
-use lib.ListN.{get_or, set, length, replicate, length-set, length-replicate, get_or-replicate}
-use lib.Seq.{get_or-set_same, get_or-set_other, ext_get_or}
+use lib.ListN.{length, replicate}
 use Rattle.bits.specs.Choose.{pick}
-use Rattle.bits.proofs.Cases.{by_test}
 use Rattle.bits.proofs.Bools.{and_second}
 use Rattle.chip.specs.declared.State.{State}
 use Rattle.chip.specs.declared.Dac.{Dac}
@@ -23,7 +20,6 @@ use Rattle.chip.specs.State.{reset_state}
 use Rattle.chip.specs.Refusal.{opening_lines, opening_status}
 use Rattle.chip.specs.Step.{Opening, Opens, blank_word, open_of}
 use Rattle.chip.proofs.Refusals.{unrefused_opening}
-use Rattle.picture.proofs.FitLaws.{panel_product}
 
 -- ---- the refusals
 
@@ -52,11 +48,6 @@ opens_small w h ml pl n e z =
     let m = (unrefused_opening w h ml pl (sym e ∙ z)).memory in
     leb-true ml 8388608 (and_second (leb 8 ml) (leb ml 8388608) (and_second (eqb (ml % 8) 0) (leb 8 ml && leb ml 8388608) m))
 
-pub opens_dots : (w h ml pl n : ℕ) → n ≡ opening_status w h ml pl → n ≡ 0 → pl ≤ 0x100000
-opens_dots w h ml pl n e z =
-    let u = unrefused_opening w h ml pl (sym e ∙ z) in
-    omega (arith, u.dots, panel_product w h u.panel)
-
 -- ---- the reset state
 
 pub reset_of : (w h f : ℕ) (v k : List ℕ) (d : Dac) (p : List ℕ) → v ≡ bank_resets → k ≡ bank_knowns → d ≡ reset_dac → p ≡ empty_palette
@@ -65,32 +56,6 @@ unfolding reset_state
 reset_of w h f v k d p ev ek ed ep =
     ap₂ (λ (x y : List ℕ). (let s : State = record { width = w; height = h; fitted = f; once = 0; values = x; knowns = y; dac = d; palette = p } in s)) ev ek
     ∙ ap₂ (λ (x : Dac) (y : List ℕ). (let s : State = record { width = w; height = h; fitted = f; once = 0; values = bank_resets; knowns = bank_knowns; dac = x; palette = y } in s)) ed ep
-
--- ---- the fill
-
--- the first i words are blank
-pub record Blanked (l₀ : List ℕ) (i : ℕ) (l : List ℕ) : Type 0 where
-  pub size : length l ≡ length l₀
-  pub done : (j : ℕ) → j < i → get_or l j 0 ≡ blank_word
-  pub upto : i ≤ length l₀
-
-pub blank_start : (l : List ℕ) → Blanked l 0 l
-blank_start l = record { size = refl; done = λ j h. absurd (omega arith); upto = omega arith }
-
-pub blank_more : (l₀ : List ℕ) (i : ℕ) (l : List ℕ) → Blanked l₀ i l → i < length l₀ → Blanked l₀ (i + 1) (set l i blank_word)
-blank_more l₀ i l b h =
-    record {
-      size = length-set l i blank_word ∙ b.size;
-      done = λ j k. by_test (eqb j i)
-          (λ e. subst (λ (x : ℕ). get_or (set l i blank_word) x 0 ≡ blank_word) (sym (eqb-true j i e)) (get_or-set_same l i blank_word 0 (omega (arith, b.size))))
-          (λ e. let n : j ≡ i → ⊥ = eqb-false j i e in get_or-set_other l i j blank_word 0 n ∙ b.done j (omega arith));
-      upto = omega arith;
-    }
-
-pub blank_end : (l₀ : List ℕ) (i : ℕ) (l : List ℕ) → Blanked l₀ i l → length l₀ ≤ i → l ≡ replicate (length l₀) blank_word
-blank_end l₀ i l b h =
-    ext_get_or 0 l (replicate (length l₀) blank_word) (b.size ∙ sym (length-replicate {A = ℕ} (length l₀) blank_word))
-    (λ j k. b.done j (omega (arith, b.size)) ∙ sym (get_or-replicate (length l₀) j blank_word 0 (omega (arith, b.size))))
 
 -- ---- the opening
 

@@ -180,3 +180,13 @@ aimed_yes d d' a t e g x = x ∙ sym (simp (sym e ∙ g))
 pub aimed_no : (d : Dac) (a : Access) (t : Bool) → t ≡ bit 0 a.enables → t ≡ false → d ≡ Option.get_or (aim_patch a).dac d
 unfolding aim_patch
 aimed_no d a t e g = sym (simp (sym e ∙ g))
+
+-- a read fetches nothing at any place but the palette's data
+pub other_fetched : (s : State) (a : Access) (p : Place) → (p ≡ PaletteData → ⊥) → (port_at s a p).fetched.dac ≡ Option.none
+unfolding port_at
+other_fetched s a (Register i) n = refl
+other_fetched s a Address n = refl
+other_fetched s a PaletteData n = absurd (n refl)
+other_fetched s a (Window i) n = refl
+other_fetched s a Blank n = refl
+other_fetched s a Nowhere n = refl

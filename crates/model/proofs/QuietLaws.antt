@@ -5,7 +5,6 @@ use mathlib.Core.Bool.{Bool, true, false, ◌&&◌}
 use mathlib.Core.List.{List}
 use mathlib.Core.Option.{Option, none, some}
 use mathlib.Core.Path.{◌≡◌, refl, sym, ap, ◌∙◌}
-use borrow.Author.Tests.{ne_eqb}
 use lib.Dec.{eqb}
 use lib.ListN.{get_or}
 use lib.Seq.{get_or-set_other}
@@ -26,12 +25,6 @@ use Rattle.chip.specs.Picture.{view_word, word_of}
 use Rattle.chip.proofs.Views.{same_view_lem}
 use Rattle.chip.proofs.Ports.{step_only, read_steps}
 use Rattle.model.specs.Parts.{row_shows, Quiet, QuietUnless}
-
--- ---- the rows that the picture reads
-
-pub shows_last : (i : ℕ) → (i ≡ screen_base → ⊥) → (i ≡ screen_stride → ⊥) → (i ≡ pixel_mask → ⊥) → eqb i color_mode ≡ row_shows i
-unfolding row_shows
-shows_last i a b c = simp (ne_eqb i screen_base a, ne_eqb i screen_stride b, ne_eqb i pixel_mask c)
 
 -- ---- a patch that leaves the four rows and the palette
 

@@ -1,13 +1,11 @@
 -- Tests in the order in which the code makes them, and a definition by cases read at one case.
 -- Each by cases on the test. Assumes nothing.
-use Prim.Native.Nat.{ℕ, ◌*◌, ◌%◌, ◌^◌, ◌<◌, ◌≤◌}
-use mathlib.Core.Bool.{Bool, true, false, not, ◌&&◌}
-use mathlib.Core.List.{List, ◌∷◌}
+use Prim.Native.Nat.{ℕ, ◌*◌, ◌%◌}
+use mathlib.Core.Bool.{Bool, true, false, ◌&&◌}
 use mathlib.Core.Path.{◌≡◌, refl, sym, ap, ap₂, ◌∙◌}
-use native.Mathlib.Nat.{mul-le-mul}
 use native.Mathlib.Omega.{arith}
-use borrow.Author.Tests.{lt-leb, le-leb, ne_eqb, eq-eqb, eqb-true}
-use lib.Dec.{eqb, leb}
+use borrow.Author.Tests.{eqb-true}
+use lib.Dec.{eqb}
 use Rattle.bits.specs.Choose.{pick}
 use Rattle.bits.proofs.Bools.{and_second}
 use Rattle.bits.proofs.Cases.{by_test}
@@ -19,33 +17,17 @@ use Rattle.chip.specs.Aperture.{served, span, reaches_memory}
 use Rattle.chip.specs.Place.{place_of}
 use Rattle.chip.specs.Port.{Port, port_at}
 use Rattle.chip.specs.Access.{is_write}
-use Rattle.chip.specs.Refusal.{Line, line, first_of, port_of, later_lines, later_status}
+use Rattle.chip.specs.Refusal.{first_of, port_of, later_lines, later_status}
 use Rattle.chip.specs.Sound.{panel_ok, memory_ok, component_ok, address_ok, once_ok, bank_sound, is_state}
 use Rattle.chip.specs.Palette.{palette_ok}
 use Rattle.model.specs.Parts.{sizes_ok}
-use Rattle.model.specs.Stages.{place_lines, lent_ok, form_ok, later_from, later_at}
+use Rattle.model.specs.Stages.{place_lines, lent_ok, form_ok, form_lines, later_from, later_at}
 
 -- a definition over places, at the place that was found
 pub at_place : {A : Type 0} (f : Place → A) (p q : Place) (r : A) → p ≡ q → r ≡ f q → r ≡ f p
 at_place f p q r e h = h ∙ sym (ap f e)
 
--- ---- two tests in a row
-
-pub and_no : (t a b : Bool) → t ≡ a → t ≡ false → false ≡ (a && b)
-and_no t a b p e = simp (sym p ∙ e)
-
-pub and_yes : (t a b r : Bool) → t ≡ a → t ≡ true → r ≡ b → r ≡ (a && b)
-and_yes t a b r p e h = h ∙ simp (sym p ∙ e)
-
 -- ---- the lines of a table
-
--- a line whose test fails gives its number
-pub line_hit : (n : ℕ) (x t : Bool) (l : List Line) → x ≡ t → x ≡ false → n ≡ first_of (line n (not t) ∷ l)
-line_hit n x t l p e = simp (sym p ∙ e)
-
--- one whose test passes leaves it to the lines after it
-pub line_past : (n : ℕ) (x t : Bool) (l : List Line) (r : ℕ) → x ≡ t → x ≡ true → r ≡ first_of l → r ≡ first_of (line n (not t) ∷ l)
-line_past n x t l r p e h = h ∙ simp (sym p ∙ e)
 
 -- lines 5, 6 and 7 of what a place is, and the lines from 3 on
 module _ (q : Port) (w : Bool) where
@@ -79,32 +61,29 @@ fits_by f a v c x p q = ap (λ (k : ℕ). reaches_memory f (span k (at_byte a.of
 pub served_by : (v c : ℕ) (x : Bool) → c ≡ v → x ≡ served c → served v ≡ x
 served_by v c x p q = ap served (sym p) ∙ sym q
 
-module _ (q : Port) (a : Access) (x : Bool) (ex : x ≡ form_ok a) where
-  pub line_three : x ≡ false → 3 ≡ first_of (later_from q a)
-  unfolding later_from
-  line_three e = line_hit 3 x (form_ok a) (line 4 (not (eqb (a.offset % 4) 0)) ∷ place_lines q (is_write a)) ex e
-
-  pub line_four : x ≡ true → (a.offset % 4 ≡ 0 → ⊥) → 4 ≡ first_of (later_from q a)
-  unfolding later_from
-  line_four e n =
-      line_past 3 x (form_ok a) (line 4 (not (eqb (a.offset % 4) 0)) ∷ place_lines q (is_write a)) 4 ex e
-      (line_hit 4 (eqb (a.offset % 4) 0) (eqb (a.offset % 4) 0) (place_lines q (is_write a)) refl (ne_eqb (a.offset % 4) 0 n))
-
-  pub after_four : (r : ℕ) → x ≡ true → a.offset % 4 ≡ 0 → r ≡ first_of (place_lines q (is_write a)) → r ≡ first_of (later_from q a)
-  unfolding later_from
-  after_four r e n h =
-      line_past 3 x (form_ok a) (line 4 (not (eqb (a.offset % 4) 0)) ∷ place_lines q (is_write a)) r ex e
-      (line_past 4 (eqb (a.offset % 4) 0) (eqb (a.offset % 4) 0) (place_lines q (is_write a)) r refl (eq-eqb (a.offset % 4) 0 n) h)
-
--- the lines from 2 on, at a place
-module _ (s : State) (ml pl : ℕ) (a : Access) (p : Place) (y : Bool) (ey : y ≡ lent_ok s.width s.height s.fitted ml pl) where
-  pub line_two : y ≡ false → 2 ≡ later_at s ml pl a p
+-- the stages after 1, each with its status n: the first that refuses gives its number
+module _ (s : State) (ml pl : ℕ) (a : Access) (p : Place) where
+  pub stage_lent : {n : ℕ} → (n ≡ 0 → ⊥) → n ≡ pick (lent_ok s.width s.height s.fitted ml pl) 0 2 → n ≡ later_at s ml pl a p
   unfolding later_at
-  line_two f = line_hit 2 y (lent_ok s.width s.height s.fitted ml pl) (later_from (port_at s a p) a) ey f
+  stage_lent h e = by_test (lent_ok s.width s.height s.fitted ml pl) (λ t. absurd (h (e ∙ simp t))) (λ t. simp t (e ∙ simp t))
 
-  pub after_two : (r : ℕ) → y ≡ true → r ≡ first_of (later_from (port_at s a p) a) → r ≡ later_at s ml pl a p
-  unfolding later_at
-  after_two r f h = line_past 2 y (lent_ok s.width s.height s.fitted ml pl) (later_from (port_at s a p) a) r ey f h
+  module _ (el : ◌≡◌ {A = ℕ} 0 (pick (lent_ok s.width s.height s.fitted ml pl) 0 2)) where
+    lent_yes : lent_ok s.width s.height s.fitted ml pl ≡ true
+    lent_yes = by_test (lent_ok s.width s.height s.fitted ml pl) (λ t. t) (λ t. absurd (let z : 0 ≡ 2 = el ∙ simp t in omega arith))
+
+    pub stage_form : {n : ℕ} → (n ≡ 0 → ⊥) → n ≡ first_of (form_lines a) → n ≡ later_at s ml pl a p
+    unfolding later_at later_from form_lines
+    stage_form h e =
+        simp lent_yes (by_test (form_ok a)
+        (λ t. by_test (eqb (a.offset % 4) 0) (λ u. absurd (h (e ∙ simp (t, u)))) (λ u. simp (t, u) (e ∙ simp (t, u))))
+        (λ t. simp t (e ∙ simp t)))
+
+    pub stage_place : {n : ℕ} → 0 ≡ first_of (form_lines a) → n ≡ first_of (place_lines (port_at s a p) (is_write a)) → n ≡ later_at s ml pl a p
+    unfolding later_at later_from form_lines
+    stage_place f e =
+        simp lent_yes (by_test (form_ok a)
+        (λ t. by_test (eqb (a.offset % 4) 0) (λ u. simp (t, u) e) (λ u. absurd (let z : 0 ≡ 4 = f ∙ simp (t, u) in omega arith)))
+        (λ t. absurd (let z : 0 ≡ 3 = f ∙ simp t in omega arith)))
 
 -- at the place of the access they are the definition's
 pub later_is : (s : State) (ml pl : ℕ) (a : Access) (p : Place) → p ≡ place_of s a → later_at s ml pl a p ≡ later_status s ml pl a
@@ -117,27 +96,6 @@ unfolding later_status later_lines
 lent_size s ml pl a e =
     let t : (eqb ml s.fitted && eqb pl (s.width * s.height)) ≡ true = by_test (eqb ml s.fitted && eqb pl (s.width * s.height)) (λ u. u) (λ u. absurd (let z : 2 ≡ 0 = sym (simp u) ∙ e in omega arith)) in
     eqb-true pl (s.width * s.height) (and_second (eqb ml s.fitted) (eqb pl (s.width * s.height)) t)
-
--- ---- two words multiplied fit in two words
-
-pub product_fits : (w h : ℕ) → w < 2 ^ 32 → h < 2 ^ 32 → w * h < 2 ^ 64
-product_fits w h p q =
-    let z : w * h ≤ 0xFFFFFFFF * 0xFFFFFFFF = mul-le-mul {n₂ = 0xFFFFFFFF} {m₂ = 0xFFFFFFFF} (omega arith) (omega arith) in
-    omega arith
-
--- ---- memory's limits
-
-pub memory_odd : (f : ℕ) → (f % 8 ≡ 0 → ⊥) → false ≡ memory_ok f
-unfolding memory_ok
-memory_odd f p = simp (ne_eqb (f % 8) 0 p)
-
-pub memory_none : (f : ℕ) → f % 8 ≡ 0 → f < 8 → false ≡ memory_ok f
-unfolding memory_ok
-memory_none f p q = simp (eq-eqb (f % 8) 0 p, lt-leb 8 f q)
-
-pub memory_last : (f : ℕ) → f % 8 ≡ 0 → 8 ≤ f → leb f 8388608 ≡ memory_ok f
-unfolding memory_ok
-memory_last f p q = simp (eq-eqb (f % 8) 0 p, le-leb 8 f q)
 
 -- ---- refusal 1 as the code groups and joins its tests
 

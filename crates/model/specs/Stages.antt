@@ -18,6 +18,9 @@ lent_ok w h f ml pl = eqb ml f && eqb pl (w * h)
 abbrev pub form_ok : Access → Bool
 form_ok a = leb a.target 3 && leb a.enables 15
 
+unfoldable pub form_lines : Access → List Line
+form_lines a = line 3 (not (form_ok a)) ∷ line 4 (not (eqb (a.offset % 4) 0)) ∷ []
+
 unfoldable pub later_from : Port → Access → List Line
 later_from q a = line 3 (not (form_ok a)) ∷ line 4 (not (eqb (a.offset % 4) 0)) ∷ place_lines q (is_write a)
 

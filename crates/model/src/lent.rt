@@ -4,10 +4,10 @@ ghost use Rattle.chip.specs.Access.{reads, writes, looks};
 ghost use Rattle.chip.specs.Parts.{state_of, replied, wrote, opened};
 ghost use Rattle.chip.specs.Step.{step_of, open_of, Gives, Opens};
 
-use crate::opening::{blank, open_status, reset_parts};
+use crate::opening::{blank, check_opening, reset_parts};
 use crate::sound::is_state;
-use crate::sure::{sure_look, sure_read, sure_write};
-use chip::{DAC_BYTES, ROWS, Reply, Wrote};
+use crate::sure::{not_written, refused, sure_look, sure_read, sure_write};
+use chip::{DAC_BYTES, ROWS, Refusal, Reply, Wrote};
 use palette::dac::dac_of;
 
 pub fn read<'a>(
@@ -38,11 +38,7 @@ pub fn read<'a>(
         palette,
         dac_of(dac),
     ) {
-        return Reply {
-            status: 1,
-            word: 0,
-            known: 0,
-        };
+        return refused(Refusal::NotState);
     }
     sure_read(
         width, height, fitted, once, values, knowns, palette, dac, target, offset, enables, memory,
@@ -80,10 +76,7 @@ pub fn write(
         palette,
         dac_of(dac),
     ) {
-        return Wrote {
-            status: 1,
-            changed: 0,
-        };
+        return not_written(Refusal::NotState);
     }
     sure_write(
         width, height, fitted, once, values, knowns, palette, dac, target, offset, enables, word,
@@ -111,11 +104,7 @@ pub fn look<'a>(
 {
     let d = dac_of(dac);
     if !is_state(width, height, fitted, once, values, knowns, palette, d) {
-        return Reply {
-            status: 1,
-            word: 0,
-            known: 0,
-        };
+        return refused(Refusal::NotState);
     }
     sure_look(
         width, height, fitted, once, values, knowns, palette, d, target, offset, enables, memory,
@@ -140,12 +129,12 @@ pub fn open(
     ensures { Opens (open_of wide high memory.old picture.old)
         (opened (state_of width.new height.new fitted.new once.new values.new knowns.new palette.new dac.new) result) memory.new picture.new }
 {
-    let n = open_status(wide, high, memory.len() as u64, picture.len() as u64);
-    if n != 0 {
+    let test = check_opening(wide, high, memory.len() as u64, picture.len() as u64);
+    if let Err(why) = test {
         reset_parts(
             width, height, fitted, once, values, knowns, palette, dac, 0, 0, 0,
         );
-        return n;
+        return u32::from(why);
     }
     let size = memory.len() as u32;
     reset_parts(

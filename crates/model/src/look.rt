@@ -16,12 +16,19 @@ pub fn look<'a>(
 ) -> Reply
     ensures { Gives (step_of s memory.now picture.now (looks target offset enables)) (replied s result) memory.now picture.now }
 {
-    let values = s.values;
-    let knowns = s.knowns;
-    let palette = s.palette;
-    let dac = dac_bytes(s.dac);
     crate::lent::look(
-        s.width, s.height, s.fitted, s.once, &values, &knowns, &palette, &dac, target, offset,
-        enables, memory, picture,
+        s.width,
+        s.height,
+        s.fitted,
+        s.once,
+        &s.values,
+        &s.knowns,
+        &s.palette,
+        &dac_bytes(s.dac),
+        target,
+        offset,
+        enables,
+        memory,
+        picture,
     )
 }

@@ -29,7 +29,6 @@ pub fn open(width: u32, height: u32, memory: &mut [u8], picture: &mut [u32]) -> 
         memory,
         picture,
     );
-    let d = dac_of(&dac);
     let n = State {
         width: w,
         height: h,
@@ -38,7 +37,7 @@ pub fn open(width: u32, height: u32, memory: &mut [u8], picture: &mut [u32]) -> 
         values,
         knowns,
         palette,
-        dac: d,
+        dac: dac_of(&dac),
     };
     Opened { status, state: n }
 }

@@ -1,27 +1,33 @@
 // An opening in place: its refusals, the parts at reset, and the picture filled.
-ghost use Rattle.std.specs.Prelude.{◌≡◌, ◌≤◌, length, replicate};
+ghost use Rattle.std.specs.Prelude.{◌≡◌, length, replicate};
 ghost use Rattle.chip.specs.Parts.{state_of};
 ghost use Rattle.chip.specs.State.{reset_state};
 ghost use Rattle.chip.specs.Refusal.{opening_status};
+ghost use Rattle.chip.specs.Status.{status_given};
 ghost use Rattle.chip.specs.Step.{blank_word};
 
-use chip::{DAC_BYTES, ROWS};
+use chip::{DAC_BYTES, ROWS, Refusal};
 
-// The number of the refusal, or 0, in the order 8, 9, 2.
+// The refusals of an opening, in the order 8, 9, 2.
 #[tactic(auto, using(crate::proofs::OpenLaws::line_eight, crate::proofs::OpenLaws::line_nine, crate::proofs::OpenLaws::line_size, crate::proofs::OpenLaws::line_none))]
-pub(crate) fn open_status(width: u32, height: u32, memory: u64, picture: u64) -> u32
-    ensures { result ≡ opening_status width height memory picture }
+pub(crate) fn check_opening(
+    width: u32,
+    height: u32,
+    memory: u64,
+    picture: u64,
+) -> Result<(), Refusal>
+    ensures { status_given result ≡ opening_status width height memory picture }
 {
     if !picture::redraw::panel_fits(width, height) {
-        return 8;
+        return Err(Refusal::Panel);
     }
     if !crate::sound::memory_ok(memory) {
-        return 9;
+        return Err(Refusal::Memory);
     }
-    if picture != (width as u64) * (height as u64) {
-        return 2;
+    if picture != u64::from(width) * u64::from(height) {
+        return Err(Refusal::Length);
     }
-    0
+    Ok(())
 }
 
 // Every part takes its reset value.
@@ -51,13 +57,7 @@ pub(crate) fn reset_parts(
 }
 
 pub(crate) fn blank(picture: &mut [u32])
-    requires { length picture.old ≤ 0x100000 }
     ensures { picture.new ≡ replicate (length picture.old) blank_word }
 {
-    let n = picture.len();
-    let mut i = 0;
-    while i < n {
-        picture[i] = 0x03000000;
-        i += 1;
-    }
+    picture.fill(0x03000000);
 }

@@ -16,8 +16,6 @@ pub fn read<'a>(
     ensures { Gives (step_of s memory.now picture.now (reads target offset enables)) result memory.now picture.now }
 {
     let mut values = s.values;
-    let knowns = s.knowns;
-    let palette = s.palette;
     let mut dac = dac_bytes(s.dac);
     let r = crate::lent::read(
         s.width,
@@ -25,8 +23,8 @@ pub fn read<'a>(
         s.fitted,
         s.once,
         &mut values,
-        &knowns,
-        &palette,
+        &s.knowns,
+        &s.palette,
         &mut dac,
         target,
         offset,
@@ -34,16 +32,10 @@ pub fn read<'a>(
         memory,
         picture,
     );
-    let d = dac_of(&dac);
     let n = State {
-        width: s.width,
-        height: s.height,
-        fitted: s.fitted,
-        once: s.once,
         values,
-        knowns,
-        palette,
-        dac: d,
+        dac: dac_of(&dac),
+        ..s
     };
     Answer {
         status: r.status,

@@ -59,8 +59,8 @@ pub(crate) fn seen_at<'a>(
     match p {
         Place::Register(i) => seen_register(values, knowns, i),
         Place::Address => Seen {
-            value: d.address as u32,
-            known: d.known as u32,
+            value: u32::from(d.address),
+            known: u32::from(d.known),
         },
         Place::PaletteData => seen_data(values, palette, d),
         Place::Window(i) => seen_window(values, a, i, memory),

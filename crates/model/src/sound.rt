@@ -7,27 +7,18 @@ ghost use Rattle.model.specs.Parts.{sizes_ok};
 
 use chip::{Dac, ROWS};
 
+#[tactic(auto, unfolding(chip::specs::Sound::memory_ok))]
 pub(crate) fn memory_ok(fitted: u64) -> bool
     ensures { result ≡ memory_ok fitted }
 {
-    if fitted % 8 != 0 {
-        return false;
-    }
-    if fitted < 8 {
-        return false;
-    }
-    fitted <= 8388608
+    fitted % 8 == 0 && (8..=8388608).contains(&fitted)
 }
 
+#[tactic(auto, unfolding(crate::specs::Parts::sizes_ok, chip::specs::Sound::once_ok))]
 fn sizes_ok(width: u32, height: u32, fitted: u32, once: u32) -> bool
     ensures { result ≡ sizes_ok width height fitted once }
 {
-    if picture::redraw::panel_fits(width, height) {
-        if memory_ok(fitted as u64) {
-            return once <= 3;
-        }
-    }
-    false
+    picture::redraw::panel_fits(width, height) && memory_ok(u64::from(fitted)) && once <= 3
 }
 
 pub fn is_state<'a>(

@@ -3,22 +3,33 @@
 ghost use Rattle.chip.specs.Access.{reads, writes, looks};
 ghost use Rattle.std.specs.Prelude.{◌≡◌};
 ghost use Rattle.chip.specs.Parts.{made, state_of, replied, wrote};
+ghost use Rattle.chip.specs.Status.{number_of};
 ghost use Rattle.chip.specs.Step.{surely_of, Gives};
 
 use crate::seen::{reply_of, seen_at};
-use crate::status::later_status;
+use crate::status::check_access;
 use crate::written::{fetch_at, write_at};
-use chip::{Access, DAC_BYTES, Dac, Kind, ROWS, Reply, Wrote};
+use chip::{Access, DAC_BYTES, Dac, ROWS, Refusal, Reply, Wrote};
 use palette::dac::dac_of;
 use registers::place::place_of;
 
-fn refused(n: u32) -> Reply
-    ensures { result ≡ record { status = n; word = 0; known = 0 } }
+// What a refused read or look replies, and what a refused write answers.
+pub(crate) fn refused(why: Refusal) -> Reply
+    ensures { result ≡ record { status = number_of why; word = 0; known = 0 } }
 {
     Reply {
-        status: n,
+        status: u32::from(why),
         word: 0,
         known: 0,
+    }
+}
+
+pub(crate) fn not_written(why: Refusal) -> Wrote
+    ensures { result ≡ record { status = number_of why; changed = 0 } }
+{
+    Wrote {
+        status: u32::from(why),
+        changed: 0,
     }
 }
 
@@ -41,16 +52,10 @@ pub fn sure_read<'a>(
     ensures { Gives (surely_of (state_of width height fitted once values.old knowns.now palette.now dac.old) memory.now picture.now (reads target offset enables))
         (replied (state_of width height fitted once values.new knowns.now palette.now dac.new) result) memory.now picture.now }
 {
-    let a = Access {
-        target,
-        offset,
-        kind: Kind::Read,
-        enables,
-        word: 0,
-    };
+    let a = Access::read(target, offset, enables);
     let d = dac_of(dac);
     let p = place_of(d, target, offset);
-    let n = later_status(
+    let test = check_access(
         width,
         height,
         fitted,
@@ -60,8 +65,8 @@ pub fn sure_read<'a>(
         a,
         p,
     );
-    if n != 0 {
-        return refused(n);
+    if let Err(why) = test {
+        return refused(why);
     }
     let x = seen_at(values, knowns, palette, d, a, p, memory);
     fetch_at(dac, a, p);
@@ -87,15 +92,9 @@ pub(crate) fn sure_look<'a>(
     ensures { Gives (surely_of (made width height fitted once values.now knowns.now palette.now d) memory.now picture.now (looks target offset enables))
         (replied (made width height fitted once values.now knowns.now palette.now d) result) memory.now picture.now }
 {
-    let a = Access {
-        target,
-        offset,
-        kind: Kind::Look,
-        enables,
-        word: 0,
-    };
+    let a = Access::look(target, offset, enables);
     let p = place_of(d, target, offset);
-    let n = later_status(
+    let test = check_access(
         width,
         height,
         fitted,
@@ -105,8 +104,8 @@ pub(crate) fn sure_look<'a>(
         a,
         p,
     );
-    if n != 0 {
-        return refused(n);
+    if let Err(why) = test {
+        return refused(why);
     }
     let x = seen_at(values, knowns, palette, d, a, p, memory);
     reply_of(x, enables)
@@ -131,16 +130,10 @@ pub fn sure_write(
     ensures { Gives (surely_of (state_of width height fitted once.old values.old knowns.old palette.old dac.old) memory.old picture.old (writes target offset enables word))
         (wrote (state_of width height fitted once.new values.new knowns.new palette.new dac.new) result) memory.new picture.new }
 {
-    let a = Access {
-        target,
-        offset,
-        kind: Kind::Write,
-        enables,
-        word,
-    };
+    let a = Access::write(target, offset, enables, word);
     let d = dac_of(dac);
     let p = place_of(d, target, offset);
-    let n = later_status(
+    let test = check_access(
         width,
         height,
         fitted,
@@ -150,11 +143,8 @@ pub fn sure_write(
         a,
         p,
     );
-    if n != 0 {
-        return Wrote {
-            status: n,
-            changed: 0,
-        };
+    if let Err(why) = test {
+        return not_written(why);
     }
     let changed = write_at(
         width, height, once, values, knowns, palette, dac, a, p, memory, picture,

@@ -20,9 +20,10 @@ fn write_lane<'a>(
 {
     if bits::bit_of(j, a.enables) {
         let at = aperture::lane_place(control, a.offset, j);
-        return picture::poke::poke(v, palette, memory, picture, at, bits::lane_byte(j, a.word));
+        picture::poke::poke(v, palette, memory, picture, at, bits::lane_byte(j, a.word))
+    } else {
+        0
     }
-    0
 }
 
 // Lane after lane; the number of words that changed.

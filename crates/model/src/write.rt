@@ -37,16 +37,13 @@ pub fn write(
         memory,
         picture,
     );
-    let d = dac_of(&dac);
     let n = State {
-        width: s.width,
-        height: s.height,
-        fitted: s.fitted,
         once,
         values,
         knowns,
         palette,
-        dac: d,
+        dac: dac_of(&dac),
+        ..s
     };
     Answer {
         status: r.status,

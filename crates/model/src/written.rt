@@ -19,19 +19,11 @@ use picture::view::view_of;
 use registers::bank::write_row;
 
 // What the picture reads of the bank.
+#[tactic(auto, unfolding(crate::specs::Parts::row_shows))]
 fn row_shows(i: usize) -> bool
     ensures { result ≡ row_shows i }
 {
-    if i == SCREEN_BASE {
-        return true;
-    }
-    if i == SCREEN_STRIDE {
-        return true;
-    }
-    if i == PIXEL_MASK {
-        return true;
-    }
-    i == COLOR_MODE
+    matches!(i, SCREEN_BASE | SCREEN_STRIDE | PIXEL_MASK | COLOR_MODE)
 }
 
 // A register: the old view, the store, the new view, and the redraw between the two; a row that no view reads needs none.
@@ -54,10 +46,11 @@ fn write_register<'a>(
         let old = view_of(width, height, values, knowns);
         write_row(once, values, knowns, i, a);
         let new = view_of(width, height, values, knowns);
-        return picture::redraw::redraw(old, new, palette, memory, picture);
+        picture::redraw::redraw(old, new, palette, memory, picture)
+    } else {
+        write_row(once, values, knowns, i, a);
+        0
     }
-    write_row(once, values, knowns, i, a);
-    0
 }
 
 fn write_address(dac: &mut [u8; DAC_BYTES], a: Access)
@@ -65,7 +58,6 @@ fn write_address(dac: &mut [u8; DAC_BYTES], a: Access)
 {
     if bit_of(0, a.enables) {
         put_dac(dac, palette::dac::aimed_at(lane_byte(0, a.word)));
-        return;
     }
 }
 
@@ -154,8 +146,7 @@ pub(crate) fn write_at(
         Place::Window(i) => crate::window::write_window(
             width, height, values, knowns, palette, a, i, memory, picture,
         ),
-        Place::Blank => 0,
-        Place::Nowhere => 0,
+        Place::Blank | Place::Nowhere => 0,
     }
 }
 
@@ -165,7 +156,6 @@ fn fetch(dac: &mut [u8; DAC_BYTES], a: Access)
     if bit_of(0, a.enables) {
         let d = dac_of(dac);
         put_dac(dac, palette::dac::after_fetch(d));
-        return;
     }
 }
 
@@ -173,12 +163,7 @@ fn fetch(dac: &mut [u8; DAC_BYTES], a: Access)
 pub(crate) fn fetch_at(dac: &mut [u8; DAC_BYTES], a: Access, p: Place)
     ensures { (w h f o : ℕ) (vs ks q : List ℕ) → dac_of dac.new ≡ get_or (port_at (state_of w h f o vs ks q dac.old) a p).fetched.dac (dac_of dac.old) }
 {
-    match p {
-        Place::Register(i) => {}
-        Place::Address => {}
-        Place::PaletteData => fetch(dac, a),
-        Place::Window(i) => {}
-        Place::Blank => {}
-        Place::Nowhere => {}
+    if let Place::PaletteData = p {
+        fetch(dac, a);
     }
 }

@@ -1,8 +1,6 @@
 pub mod Searches
 pub mod Flags
 pub mod Rows
-pub mod Stored
 pub mod PackedEntries
-pub mod Places
 pub mod OneOutcome
 pub mod FaultLaws

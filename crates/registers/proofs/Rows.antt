@@ -3,7 +3,6 @@
 use Prim.Native.Nat.{ℕ, ◌/◌, ◌%◌, ◌≤◌}
 use mathlib.Core.Bool.{Bool, true, false, not}
 use mathlib.Core.List.{List, [], ◌∷◌, map}
-use mathlib.Core.Option
 use mathlib.Core.Path.{◌≡◌, refl, sym, ap, ◌∙◌}
 use native.Mathlib.Omega.{arith}
 use borrow.Author.Tests.{eqb-true, eqb-false, ne_eqb, ltb-true, ltb-false}
@@ -24,7 +23,7 @@ use Rattle.chip.specs.Header.{header_rows}
 use Rattle.chip.specs.Indirect.{indirect_rows}
 use Rattle.chip.specs.Bank.{bank_rows, bank_count, bank_row, bank_resets, bank_knowns, subsystem}
 use Rattle.chip.specs.Register.{may_change, moved_bits}
-use Rattle.chip.specs.Subsystem.{half_bits, stored_bits, fixed_by, exempt}
+use Rattle.chip.specs.Subsystem.{half_bits, stored_bits, exempt}
 use Rattle.chip.specs.Sound.{row_ok, bank_sound}
 use Rattle.chip.proofs.Tables.{bank_length, resets_at, knowns_at}
 use Rattle.registers.specs.Columns.{column_ok, columns_sound, in_set}
@@ -118,7 +117,3 @@ clears_at i =
 pub stored_other : (once i e word : ℕ) {m : ℕ} → (i ≡ subsystem → ⊥) → m ≡ moved_bits (bank_row i) (lanes_of e) word → m ≡ stored_bits once i e word
 unfolding stored_bits
 stored_other once i e word n p = p ∙ sym (simp (ne_eqb i subsystem n))
-
-pub fixed_other : (once i e : ℕ) → (i ≡ subsystem → ⊥) → once ≡ Option.get_or (fixed_by once i e) once
-unfolding fixed_by
-fixed_other once i e n = sym (simp (ne_eqb i subsystem n))

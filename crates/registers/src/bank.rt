@@ -10,14 +10,16 @@ ghost use Rattle.registers.specs.Columns.{in_set};
 ghost use Rattle.registers.specs.Written.{RowWritten, BankReset};
 
 use super::subsystem::{half_bits, once_after, once_moved};
-use super::table::{columns_sound, put_word, word_of};
-use bits::{bit_of, bits_inside, bits_joined, bits_merged, bits_outside, lanes_of};
+use super::table::columns_sound;
+use bits::{bit_of, bits_inside, bits_joined, bits_merged, bits_outside, lanes_of, put_at};
 use chip::{Access, COMMAND, ROWS, SUBSYSTEM};
 
 // The directions, a bit for each row: the rows that are read, and the rows that are written.
 const READS: [u32; 3] = [0xFFFFFFFF, 0xFFFFFFF, 0x7E20];
 
 const WRITES: [u32; 3] = [0xFFFF3FFF, 0xFFFFFFFF, 0x7FFF];
+
+// A column for each number of a row, not a row for each register: bank_resets, bank_knowns and reset_bank give whole columns, as a state has them.
 
 // The bits that take a write's. The subsystem numbers have a rule of their own.
 const WRITABLE: [u32; ROWS] = [
@@ -103,6 +105,7 @@ const WRITABLE: [u32; ROWS] = [
 ];
 
 // The bits that a write may change: those that take its bits, and two status bits that a write of one clears. The subsystem numbers have a rule of their own.
+// A table of its own beside WRITABLE: a constant that is computed from another is not supported yet, and bank_sound reads whole columns.
 const MAY: [u32; ROWS] = [
     0x3FB, // ApertureOne
     0x3FB, // ApertureTwo
@@ -352,19 +355,22 @@ const KNOWNS: [u32; ROWS] = [
 ];
 
 // Whether a set of rows has row i.
+#[tactic(auto, unfolding(crate::specs::Columns::in_set))]
 fn in_set(set: &[u32; 3], i: usize) -> bool
     ensures { result ≡ in_set set.now i }
 {
-    bit_of((i % 32) as u32, word_of(set, i / 32))
+    bit_of((i % 32) as u32, set.get(i / 32).copied().unwrap_or(0))
 }
 
 // Whether a register is read, and whether it is written; neither past the bank's end.
+#[tactic(auto, using(crate::proofs::Rows::reads_at))]
 pub fn row_reads(i: usize) -> bool
     ensures { result ≡ (bank_row i).reads }
 {
     in_set(&READS, i)
 }
 
+#[tactic(auto, using(crate::proofs::Rows::writes_at))]
 pub fn row_writes(i: usize) -> bool
     ensures { result ≡ (bank_row i).writes }
 {
@@ -374,17 +380,15 @@ pub fn row_writes(i: usize) -> bool
 pub fn row_writable(i: usize) -> u32
     ensures { result ≡ (bank_row i).writable }
 {
-    word_of(&WRITABLE, i)
+    held(&WRITABLE, i)
 }
 
 // The bits that a write of one clears: two of CFGStatus.
+#[tactic(auto, using(crate::proofs::Rows::clears_at))]
 fn row_clears(i: usize) -> u32
     ensures { result ≡ (bank_row i).clears }
 {
-    if i == COMMAND {
-        return 0x30000000;
-    }
-    0
+    if i == COMMAND { 0x30000000 } else { 0 }
 }
 
 // The bits that a write of word with enables e stores.
@@ -392,12 +396,11 @@ pub fn stored_bits(once: u32, i: usize, e: u32, word: u32) -> u32
     ensures { result ≡ stored_bits once i e word }
 {
     if i == SUBSYSTEM {
-        return once_moved(once, e);
+        once_moved(once, e)
+    } else {
+        let may = bits_joined(row_writable(i), bits_inside(row_clears(i), word));
+        bits_inside(lanes_of(e), may)
     }
-    bits_inside(
-        lanes_of(e),
-        bits_joined(row_writable(i), bits_inside(row_clears(i), word)),
-    )
 }
 
 // What it stores there: zero in the bits that are cleared by one.
@@ -408,13 +411,15 @@ pub fn brought_word(i: usize, word: u32) -> u32
 }
 
 // The subsystem numbers that are fixed after it.
+#[tactic(auto, unfolding(chip::specs::Subsystem::fixed_by))]
 pub fn fixed_after(once: u32, i: usize, e: u32) -> u32
     ensures { result ≡ Option.get_or (fixed_by once i e) once }
 {
     if i == SUBSYSTEM {
-        return once_after(once, e);
+        once_after(once, e)
+    } else {
+        once
     }
-    once
 }
 
 // No register has a fault. Those of the subsystem numbers that are fixed may differ from their reset.
@@ -448,10 +453,11 @@ pub fn bank_knowns() -> [u32; ROWS]
 pub fn held(column: &[u32; ROWS], i: usize) -> u32
     ensures { result ≡ get_or column.now i 0 }
 {
-    word_of(column, i)
+    column.get(i).copied().unwrap_or(0)
 }
 
-// A write of register i, in place: these bits of it take the word's, and become known. Past the bank's end nothing is stored.
+// A write of register i, in place: these bits of it take the word's, and become known. Past the bank's end nothing is stored. The parts are lent one by one,
+// as the C interface lends them (lent::write).
 pub fn write_row(
     once: &mut u32,
     values: &mut [u32; ROWS],
@@ -466,8 +472,8 @@ pub fn write_row(
     let word = brought_word(i, a.word);
     let v = bits_merged(held(values, i), word, bits);
     let k = bits_joined(held(knowns, i), bits);
-    put_word(values, i, v);
-    put_word(knowns, i, k);
+    put_at(values, i, v);
+    put_at(knowns, i, k);
     *once = fixed_after(o, i, a.enables);
 }
 

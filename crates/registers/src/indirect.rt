@@ -2,9 +2,8 @@
 // names (000, table 5.2; 01, RAMDAC).
 ghost use Rattle.std.specs.Prelude.{◌≡◌};
 ghost use Rattle.chip.specs.Bank.{indirect_entry};
-ghost use Rattle.registers.specs.Packed.{index_row, packed_at};
-
-use super::table::word_of;
+ghost use Rattle.registers.specs.Packed.{packed_at};
+ghost use Rattle.registers.specs.Found.{indirect_row};
 
 // Writable in bits 0-7, reset in 8-15, the row in 16-23, exists in bit 24, reads in bit 25.
 const INDIRECT: [u32; 256] = [
@@ -52,7 +51,7 @@ const INDIRECT: [u32; 256] = [
 fn packed_of(i: u8) -> u32
     ensures { result ≡ packed_at i }
 {
-    word_of(&INDIRECT, i as usize)
+    INDIRECT[usize::from(i)]
 }
 
 pub fn index_exists(i: u8) -> bool
@@ -79,9 +78,13 @@ pub fn index_reset(i: u8) -> u8
     (packed_of(i) / 256 % 256) as u8
 }
 
-// The row of the register at an index; 0, which is no indirect register's, where nothing exists.
-pub(crate) fn index_row(i: u8) -> usize
-    ensures { result ≡ index_row i }
+// The row of the register at an index.
+pub(crate) fn indirect_row(i: u8) -> Option<usize>
+    ensures { result ≡ indirect_row i }
 {
-    (packed_of(i) / 65536 % 256) as usize
+    if index_exists(i) {
+        Some((packed_of(i) / 65536 % 256) as usize)
+    } else {
+        None
+    }
 }

@@ -11,20 +11,14 @@ use bits::{bit_of, bits_joined, bits_outside};
 fn bits_if(t: bool, m: u32) -> u32
     ensures { result ≡ pick t m 0 }
 {
-    if t {
-        return m;
-    }
-    0
+    if t { m } else { 0 }
 }
 
 // Lanes a and b are both enabled.
 fn both_lanes(e: u32, a: u32, b: u32) -> bool
     ensures { result ≡ (bit a e && bit b e) }
 {
-    if bit_of(a, e) {
-        return bit_of(b, e);
-    }
-    false
+    bit_of(a, e) && bit_of(b, e)
 }
 
 // The halves whose lanes are both enabled: 1 the vendor's, 2 the ID's.
@@ -34,6 +28,7 @@ fn halves_of(e: u32) -> u32
     bits_if(both_lanes(e, 0, 1), 1) + bits_if(both_lanes(e, 2, 3), 2)
 }
 
+#[tactic(auto, unfolding(chip::specs::Subsystem::half_bits))]
 pub fn half_bits(n: u32) -> u32
     ensures { result ≡ half_bits n }
 {
@@ -44,12 +39,14 @@ pub fn half_bits(n: u32) -> u32
 }
 
 // The bits that a write stores, and the numbers that are fixed after it.
+#[tactic(auto, unfolding(chip::specs::Subsystem::once_moved))]
 pub fn once_moved(once: u32, e: u32) -> u32
     ensures { result ≡ once_moved once e }
 {
     bits_outside(half_bits(halves_of(e)), half_bits(once))
 }
 
+#[tactic(auto, unfolding(chip::specs::Subsystem::once_after))]
 pub fn once_after(once: u32, e: u32) -> u32
     ensures { result ≡ once_after once e }
 {

@@ -7,4 +7,4 @@ use Rattle.model.proofs.ValueLaws.{taken, packed}
 use Rattle.model.proofs.look.look.Goals as goal
 
 pub returns : goal.returns
-returns c = packed _ _ _ _ _ _ _ _ _ (taken c.args.s _ c.dac_bytes-dac.ensures) (ap (λ (x : State). replied x c.look.result) (sym (taken c.args.s _ c.dac_bytes-dac.ensures))) c.look.ensures
+returns c = packed _ _ _ _ _ _ _ _ _ (taken c.args.s _ c.dac_bytes.ensures) (ap (λ (x : State). replied x c.look.result) (sym (taken c.args.s _ c.dac_bytes.ensures))) c.look.ensures

@@ -4,4 +4,4 @@ use Rattle.model.proofs.ValueLaws.{packed_opening}
 use Rattle.model.proofs.open.open.Goals as goal
 
 pub returns : goal.returns
-returns c = packed_opening _ _ _ _ _ (rw c.dac_of-d.ensures) c.open-status.ensures
+returns c = packed_opening _ _ _ _ _ (rw c.dac_of.ensures) c.open-status.ensures

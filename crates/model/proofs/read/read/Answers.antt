@@ -4,4 +4,4 @@ use Rattle.model.proofs.ValueLaws.{taken, packed}
 use Rattle.model.proofs.read.read.Goals as goal
 
 pub returns : goal.returns
-returns c = packed _ _ _ _ _ _ _ _ _ (taken c.args.s _ c.dac_bytes-dac.ensures) (rw c.dac_of-d.ensures) c.read-r.ensures
+returns c = packed _ _ _ _ _ _ _ _ _ (taken c.args.s _ c.dac_bytes-dac.ensures) (rw c.dac_of.ensures) c.read-r.ensures

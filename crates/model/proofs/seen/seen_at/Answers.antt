@@ -8,7 +8,7 @@ returns-in-Register c = λ w h f o. rw c.in-Register.is c.seen_register.ensures
 
 pub returns-in-Address : goal.returns-in-Address
 unfolding port_at wide
-returns-in-Address c = λ w h f o. rw c.in-Address.is
+returns-in-Address c = λ w h f o. rw (c.in-Address.is, c.from.ensures, c.from-in-Address.ensures)
 
 pub returns-in-PaletteData : goal.returns-in-PaletteData
 unfolding port_at wide

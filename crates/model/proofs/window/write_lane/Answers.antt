@@ -7,5 +7,5 @@ use Rattle.model.proofs.window.write_lane.Goals as goal
 pub returns-then-bit_of : goal.returns-then-bit_of
 returns-then-bit_of c = lane_yes _ _ _ _ _ _ _ _ c.bit_of.ensures _ _ _ _ _ c.if-bit_of.true (ap (λ (x : Bytes). x.0) c.lane_place-at.ensures) c.lane_byte.ensures c.poke.ensures
 
-pub returns : goal.returns
-returns c = lane_no _ _ _ _ _ _ _ _ c.bit_of.ensures c.if-bit_of.false
+pub returns-else-bit_of : goal.returns-else-bit_of
+returns-else-bit_of c = lane_no _ _ _ _ _ _ _ _ c.bit_of.ensures c.if-bit_of.false

@@ -8,5 +8,5 @@ use Rattle.model.proofs.written.write_address.Goals as goal
 pub returns-then-bit_of : goal.returns-then-bit_of
 returns-then-bit_of c = aimed_yes _ _ _ _ c.bit_of.ensures c.if-bit_of.true (ap dac_of c.put_dac.ensures ∙ c.aimed_at.ensures ∙ ap aimed_at c.lane_byte.ensures)
 
-pub returns : goal.returns
-returns c = aimed_no _ _ _ c.bit_of.ensures c.if-bit_of.false
+pub returns-else-bit_of : goal.returns-else-bit_of
+returns-else-bit_of c = aimed_no _ _ _ c.bit_of.ensures c.if-bit_of.false

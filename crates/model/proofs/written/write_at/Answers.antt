@@ -1,4 +1,5 @@
 -- `model::written::write_at`, place by place (PlaceLaws). Assumes nothing.
+use mathlib.Core.Logic.{inl, inr}
 use Rattle.model.proofs.PlaceLaws.{at_put, address_put, window_put_lem, blank_put, nowhere_put}
 use Rattle.model.proofs.written.write_at.Goals as goal
 
@@ -15,7 +16,8 @@ pub returns-in-Window : goal.returns-in-Window
 returns-in-Window c = λ f. at_put _ _ _ _ _ _ _ _ _ _ c.in-Window.is (window_put_lem _ _ f _ _ _ _ _ _ _ _ _ _ _ _ c.write_window.ensures)
 
 pub returns-in-Blank : goal.returns-in-Blank
-returns-in-Blank c = λ f. at_put _ _ _ _ _ _ _ _ _ _ c.in-Blank.is (blank_put _ _ f _ _ _ _ _ _ _ _)
-
-pub returns-in-Nowhere : goal.returns-in-Nowhere
-returns-in-Nowhere c = λ f. at_put _ _ _ _ _ _ _ _ _ _ c.in-Nowhere.is (nowhere_put _ _ f _ _ _ _ _ _ _ _)
+returns-in-Blank c =
+    λ f. elim c.in-Blank.is [
+      | inl e ↦ at_put _ _ _ _ _ _ _ _ _ _ e (blank_put _ _ f _ _ _ _ _ _ _ _)
+      | inr e ↦ at_put _ _ _ _ _ _ _ _ _ _ e (nowhere_put _ _ f _ _ _ _ _ _ _ _)
+    ]

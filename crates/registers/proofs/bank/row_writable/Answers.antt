@@ -14,4 +14,4 @@ use Rattle.registers.proofs.bank.row_writable.Goals as goal
 
 pub returns : goal.returns
 unfolding bank_rows region_rows header_rows indirect_rows
-returns c = c.word_of.ensures ∙ writable_at c.args.i
+returns c = c.held.ensures ∙ writable_at c.args.i

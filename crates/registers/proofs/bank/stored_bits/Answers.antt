@@ -12,13 +12,13 @@ pub returns-then-i-eq-SUBSYSTEM : goal.returns-then-i-eq-SUBSYSTEM
 unfolding stored_bits
 returns-then-i-eq-SUBSYSTEM c = rw c.if-i-eq-SUBSYSTEM.true c.once_moved.ensures
 
-pub returns : goal.returns
+pub returns-else-i-eq-SUBSYSTEM : goal.returns-else-i-eq-SUBSYSTEM
 unfolding moved_bits
-returns c =
+returns-else-i-eq-SUBSYSTEM c =
     let a = c.args in
     stored_other a.once a.i a.e a.word c.if-i-eq-SUBSYSTEM.false
-    (c.bits_inside-2.ensures
+    (c.bits_inside-else-i-eq-SUBSYSTEM.ensures
     ∙ ap₂ inside c.lanes_of.ensures
-    (c.bits_joined.ensures
+    (c.bits_joined-may.ensures
     ∙ ap₂ joined c.row_writable.ensures
     (c.bits_inside.ensures ∙ ap (λ (m : ℕ). inside m a.word) c.row_clears.ensures)))

@@ -1,6 +1,8 @@
 -- `registers::indirect::packed_of` is the map's entry and row at an index, packed.
 -- The table is the map, packed, computed. Assumes nothing.
-use mathlib.Core.Path.{◌∙◌}
+use Prim.Native.Nat.{ℕ}
+use mathlib.Core.Path.{ap, ◌∙◌}
+use lib.ListN.{get_or}
 use native.Mathlib.Omega.{arith}
 use Rattle.chip.specs.Region.{region_rows}
 use Rattle.chip.specs.Header.{header_rows}
@@ -16,4 +18,4 @@ use Rattle.registers.proofs.indirect.packed_of.Goals as goal
 
 pub returns : goal.returns
 unfolding packed_map packed_at packed index_row indirect_entry indirect_at bank_row bank_rows region_rows header_rows indirect_rows
-returns c = c.word_of.ensures ∙ packed_at_lem c.args.i (omega arith)
+returns c = ap (λ (n : ℕ). get_or packed_map n 0) c.from.ensures ∙ packed_at_lem c.args.i (omega arith)

@@ -1,16 +1,14 @@
 -- `registers::offsets::region_at` is the row of region 0 at an offset.
--- The offsets searched are those of the rows, computed. Assumes nothing.
-use mathlib.Core.Path.{◌∙◌}
+-- A search ends within the rows. Assumes nothing.
+use mathlib.Core.Path.{ap, ◌∙◌}
+use Prim.Native.Nat.{ℕ}
 use Rattle.chip.specs.Region.{region_rows}
-use Rattle.chip.specs.Bank.{region_at}
-use Rattle.registers.specs.Columns.{first_row}
-use Rattle.registers.proofs.Searches.{first_offset}
+use Rattle.chip.specs.Bank.{region_count, region_at}
+use Rattle.registers.specs.Found.{region_row}
+use Rattle.registers.proofs.Searches.{row_within, or_end}
+use Rattle.std.specs.Prelude.{Option, unwrap_or}
 use Rattle.registers.proofs.offsets.region_at.Goals as goal
 
--- UNPAIRED
--- slice-aggregate-row-with : tie.Need-slice-aggregate-row-with
--- slice-aggregate-row-with c = search rules
-
 pub returns : goal.returns
-unfolding region_at first_row region_rows
-returns c = c.row_with.ensures ∙ first_offset region_rows c.args.o
+unfolding region_row region_at region_rows
+returns c = c.unwrap_or.ensures ∙ ap (λ (r : Option ℕ). unwrap_or r region_count) c.region_row.ensures ∙ or_end region_count _ (row_within region_rows c.args.o)

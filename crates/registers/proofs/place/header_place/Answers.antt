@@ -1,13 +1,7 @@
 -- `registers::place::header_place` is where an offset of the header leads.
--- Past FCh nowhere; a row of the header is a register, any other offset blank. Assumes nothing.
-use Rattle.registers.proofs.Places.{past_header, at_config, at_blank}
+-- A row of the header is a register. Assumes nothing.
+use Rattle.registers.proofs.Searches.{header_found}
 use Rattle.registers.proofs.place.header_place.Goals as goal
 
-pub returns-then-o-gt252 : goal.returns-then-o-gt252
-returns-then-o-gt252 c = past_header c.args.o c.if-o-gt252.true
-
-pub returns-then-i-lt-INDIRECT_FIRST : goal.returns-then-i-lt-INDIRECT_FIRST
-returns-then-i-lt-INDIRECT_FIRST c = at_config c.args.o _ c.if-o-gt252.false c.header_at-i.ensures c.if-i-lt-INDIRECT_FIRST.true
-
-pub returns : goal.returns
-returns c = at_blank c.args.o _ c.if-o-gt252.false c.header_at-i.ensures c.if-i-lt-INDIRECT_FIRST.false
+pub returns-in-Some : goal.returns-in-Some
+returns-in-Some c = header_found c.args.o _ _ c.if-o-gt252.false c.header_row.ensures c.in-Some.is

@@ -1,11 +1,11 @@
--- `model::status::window_status` is lines 5 to 7 at a window: memory is fitted, and the mode is served. Assumes nothing.
+-- `model::status::check_window` is lines 5 to 7 at a window: memory is fitted, and the mode is served. Assumes nothing.
 use mathlib.Core.Bool.{true}
 use mathlib.Core.Path.{◌∙◌}
 use Rattle.bits.proofs.Cases.{pick_same}
 use Rattle.chip.specs.Access.{is_write}
 use Rattle.chip.specs.Port.{port_at}
 use Rattle.model.proofs.TestLaws.{line_five, line_seven, no_line, fits_by, served_by}
-use Rattle.model.proofs.status.window_status.Goals as goal
+use Rattle.model.proofs.status.check_window.Goals as goal
 
 pub returns-then-not-reaches_memory : goal.returns-then-not-reaches_memory
 unfolding port_at

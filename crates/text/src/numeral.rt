@@ -3,23 +3,23 @@ ghost use Rattle.std.specs.Prelude.{◌≡◌, [], ◌∷◌, ◌+◌, ◌-◌, 
 ghost use Rattle.text.specs.Numeral.{glyph_of, is_short, numeral_of};
 ghost use Rattle.text.specs.Answer.{Wrote};
 
+#[tactic(auto, unfolding(crate::specs::Numeral::glyph_of))]
 pub(crate) fn glyph(d: u32) -> u8
     requires { d < 16 }
     ensures { result ≡ glyph_of d }
 {
-    if d < 10 { 48 + d as u8 } else { 87 + d as u8 }
+    if d < 10 {
+        b'0' + d as u8
+    } else {
+        b'a' - 10 + d as u8
+    }
 }
 
+#[tactic(auto, unfolding(crate::specs::Numeral::is_short))]
 fn is_short(base: u32, least: u32, n: u32) -> bool
     ensures { result ≡ is_short base least n }
 {
-    if n < base { least <= 1 } else { false }
-}
-
-fn less(n: u32) -> u32
-    ensures { result ≡ n - 1 }
-{
-    if n == 0 { 0 } else { n - 1 }
+    n < base && least <= 1
 }
 
 pub(crate) fn put(out: &mut [u8], at: usize, b: u8) -> usize
@@ -51,6 +51,6 @@ pub(crate) fn numeral(
     if is_short(base, least, n) {
         return put(out, at, g);
     }
-    let e = numeral(out, at, base, less(least), places - 1, n / base);
+    let e = numeral(out, at, base, least.saturating_sub(1), places - 1, n / base);
     put(out, e, g)
 }

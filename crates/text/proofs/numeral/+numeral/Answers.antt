@@ -20,7 +20,7 @@ returns-then-is_short t c =
 pub put-requires-2 : goal.put-requires-2
 put-requires-2 t c =
     let w = c.numeral-e.ensures.ends in
-    let n = numeral_length c.args.base c.less.result (c.args.places - 1) (c.args.n / c.args.base) in
+    let n = numeral_length c.args.base c.saturating_sub.result (c.args.places - 1) (c.args.n / c.args.base) in
     let p = c.requires.places_in_bounds in
     let k = wrote_length c.numeral-e.ensures in
     omega arith
@@ -28,7 +28,7 @@ put-requires-2 t c =
 pub returns : goal.returns
 returns t c =
     renamed
-    (ap (λ (g : ℕ). numeral_of c.args.base c.less.result (c.args.places - 1) (c.args.n / c.args.base) ++ (g ∷ [])) c.glyph-g.ensures
-    ∙ ap (λ (k : ℕ). numeral_of c.args.base k (c.args.places - 1) (c.args.n / c.args.base) ++ (glyph_of (c.args.n % c.args.base) ∷ [])) c.less.ensures
+    (ap (λ (g : ℕ). numeral_of c.args.base c.saturating_sub.result (c.args.places - 1) (c.args.n / c.args.base) ++ (g ∷ [])) c.glyph-g.ensures
+    ∙ ap (λ (k : ℕ). numeral_of c.args.base k (c.args.places - 1) (c.args.n / c.args.base) ++ (glyph_of (c.args.n % c.args.base) ∷ [])) c.saturating_sub.ensures
     ∙ numeral_more _ _ _ _ c.if-places-eq0.false (sym c.is_short.ensures ∙ c.if-is_short.false))
     (behind c.numeral-e.ensures c.put-2.ensures)

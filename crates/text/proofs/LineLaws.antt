@@ -85,10 +85,10 @@ module _ (k : Kind) (f : List ℕ) (fs : List (List ℕ)) where
       unfolding enables_next number_of
       enables_goes = by_test (is_number 16 f) (λ e. simp e) (λ e. simp e)
 
-      pub enables_none : None ≡ number_of 16 f → enables_next k t o (f ∷ fs) ≡ None
+      enables_none : None ≡ number_of 16 f → enables_next k t o (f ∷ fs) ≡ None
       enables_none e = enables_goes ∙ ap (option_and_then (λ n. word_next k t o n fs)) (sym e)
 
-      pub enables_some : (e : ℕ) → Some e ≡ number_of 16 f → enables_next k t o (f ∷ fs) ≡ word_next k t o e fs
+      enables_some : (e : ℕ) → Some e ≡ number_of 16 f → enables_next k t o (f ∷ fs) ≡ word_next k t o e fs
       enables_some n e = enables_goes ∙ ap (option_and_then (λ n. word_next k t o n fs)) (sym e)
 
 -- ---- the word
@@ -122,7 +122,7 @@ module _ (k : Kind) (t o e : ℕ) where
   unfolding word_next
   write_ends w = simp w
 
-  pub read_ends : writing k ≡ false → word_next k t o e [] ≡ Some (record { target = t; offset = o; kind = k; enables = e; word = 0 })
+  read_ends : writing k ≡ false → word_next k t o e [] ≡ Some (record { target = t; offset = o; kind = k; enables = e; word = 0 })
   unfolding word_next
   read_ends w = simp w
 
@@ -155,10 +155,10 @@ module _ (k : Kind) (t o e : ℕ) where
             let s : (f : List ℕ) × (fs : List (List ℕ)) × (fields_of (drop (suc (length (up_to 32 l))) l) ≡ f ∷ fs) = fields_some (drop (suc (length (up_to 32 l))) l) in
             ap (word_next k t o e) (fields_more l h ∙ ap (λ (fs : List (List ℕ)). up_to 32 l ∷ fs) s.2) ∙ simp (spaced_number l h)
 
-    pub word_none : None ≡ number_of 16 l → word_next k t o e (fields_of l) ≡ None
+    word_none : None ≡ number_of 16 l → word_next k t o e (fields_of l) ≡ None
     word_none n = word_goes ∙ ap asked (sym n)
 
-    pub word_some : (v : ℕ) → Some v ≡ number_of 16 l → word_next k t o e (fields_of l) ≡ Some (record { target = t; offset = o; kind = k; enables = e; word = v })
+    word_some : (v : ℕ) → Some v ≡ number_of 16 l → word_next k t o e (fields_of l) ≡ Some (record { target = t; offset = o; kind = k; enables = e; word = v })
     word_some v n = word_goes ∙ ap asked (sym n)
 
 -- a read or a look is asked for no word, and a write is asked for one
@@ -170,11 +170,36 @@ module _ (k : Kind) (t o : ℕ) (f : List ℕ) where
       each None = refl
       each (Some n) = p n
 
-  pub read_more : (l : List ℕ) → writing k ≡ false → enables_next k t o (f ∷ fields_of l) ≡ None
+  read_more : (l : List ℕ) → writing k ≡ false → enables_next k t o (f ∷ fields_of l) ≡ None
   read_more l w = never (fields_of l) (λ n. read_word k t o n l w)
 
-  pub write_less : writing k ≡ true → enables_next k t o (f ∷ []) ≡ None
+  write_less : writing k ≡ true → enables_next k t o (f ∷ []) ≡ None
   write_less w = never [] (λ n. write_ends k t o n w)
+
+-- the enables and what stands behind them, from a line on
+module _ (k : Kind) (t o : ℕ) (l f : List ℕ) where
+  pub no_enables : (fs : List (List ℕ)) → fields_of l ≡ f ∷ fs → None ≡ number_of 16 f → None ≡ enables_next k t o (fields_of l)
+  no_enables fs p n = sym (ap (enables_next k t o) p ∙ enables_none k f fs t o n)
+
+  module _ (w : List ℕ) (p : fields_of l ≡ f ∷ fields_of w) where
+    pub word_unasked : writing k ≡ false → None ≡ enables_next k t o (fields_of l)
+    word_unasked r = sym (ap (enables_next k t o) p ∙ read_more k t o f w r)
+
+    module _ (e : ℕ) (n : Some e ≡ number_of 16 f) (r : writing k ≡ true) where
+      pub no_word : None ≡ number_of 16 w → None ≡ enables_next k t o (fields_of l)
+      no_word m = sym (ap (enables_next k t o) p ∙ enables_some k f (fields_of w) t o e n ∙ word_none k t o e w r m)
+
+      pub asks_with_word : (v : ℕ) → Some v ≡ number_of 16 w
+          → Some (record { target = t; offset = o; kind = k; enables = e; word = v }) ≡ enables_next k t o (fields_of l)
+      asks_with_word v m = sym (ap (enables_next k t o) p ∙ enables_some k f (fields_of w) t o e n ∙ word_some k t o e w r v m)
+
+module _ (k : Kind) (t o : ℕ) (l : List ℕ) (p : fields_of l ≡ l ∷ []) where
+  pub word_missing : writing k ≡ true → None ≡ enables_next k t o (fields_of l)
+  word_missing r = sym (ap (enables_next k t o) p ∙ write_less k t o l r)
+
+  pub asks_alone : (e : ℕ) → Some e ≡ number_of 16 l → writing k ≡ false
+      → Some (record { target = t; offset = o; kind = k; enables = e; word = 0 }) ≡ enables_next k t o (fields_of l)
+  asks_alone e n r = sym (ap (enables_next k t o) p ∙ enables_some k l [] t o e n ∙ read_ends k t o e r)
 
 -- ---- the target
 

@@ -58,21 +58,13 @@ fn target(field: &[u8]) -> Option<u32>
 fn access(s: &[u8], kind: Kind, target: u32, offset: u32) -> Option<Access>
     ensures { result ≡ enables_next kind target offset (fields_of s.now) }
 {
-    match field(s) {
-        Some((enables, word)) if kind.is_write() => Some(Access {
-            target,
-            offset,
-            kind,
-            enables: number(16, enables)?,
-            word: number(16, word)?,
-        }),
-        None if !kind.is_write() => Some(Access {
-            target,
-            offset,
-            kind,
-            enables: number(16, s)?,
-            word: 0,
-        }),
+    match (kind, field(s)) {
+        (Kind::Write, Some((enables, word))) => {
+            let enables = number(16, enables)?;
+            Some(Access::write(target, offset, enables, number(16, word)?))
+        }
+        (Kind::Read, None) => Some(Access::read(target, offset, number(16, s)?)),
+        (Kind::Look, None) => Some(Access::look(target, offset, number(16, s)?)),
         _ => None,
     }
 }

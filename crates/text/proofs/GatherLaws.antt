@@ -1,4 +1,4 @@
--- Bytes copied behind those that are held as far as the buffer goes, and what a chunk has of a line.
+-- Bytes copied behind those that are held as far as the buffer goes, and what a caller's loop needs of a chunk's part.
 -- Stores past a list's end do nothing, so that a copy cut short at the end is the whole one. Assumes nothing.
 use Prim.Native.Nat.{ℕ, suc, ◌+◌, ◌-◌, ◌<◌, ◌≤◌, min}
 use mathlib.Core.Bool.{Bool, true, false}
@@ -6,16 +6,16 @@ use mathlib.Core.List.{List, [], ◌∷◌, ◌++◌, append_assoc}
 use mathlib.Core.Path.{◌≡◌, refl, sym, ap, ◌∙◌}
 use native.Mathlib.Nat.{min-le_left, min-le_right, min-eq_left, min-eq_right}
 use native.Mathlib.Omega.{arith}
-use borrow.Author.Tests.{lt-ltb, le-ltb, leb-true, leb-false, ltb-true}
+use borrow.Author.Tests.{leb-true, leb-false, ltb-true}
 use lib.Dec.{leb, ltb}
-use lib.ListN.{length, take, drop, length-drop, take-append-drop}
+use lib.ListN.{length, take, drop, take-append-drop}
 use lib.Seq.{drop-drop, sets-eq, sets, length-sets, set_out, length-take-le, take_all}
 use Rattle.std.specs.Prelude.{Some, None}
 use Rattle.std.proofs.lemmas.Option.{none-some}
 use Rattle.bits.specs.Choose.{pick}
 use Rattle.bits.proofs.Cases.{by_test}
 use Rattle.text.specs.declared.Taken.{Taken}
-use Rattle.text.specs.Gather.{up_to, part_of, Gathers}
+use Rattle.text.specs.Gather.{part_of, Gathers}
 use Rattle.text.proofs.WroteLaws.{sets_append}
 
 -- ---- a copy as far as the buffer goes
@@ -69,36 +69,11 @@ copy_over s l held f n j xs p q u v =
     ∙ take-append-drop f l
     ∙ sym (sets_past s l held (omega arith)))
 
--- ---- a chunk's part of a line
-
-module _ (chunk : List ℕ) (from : ℕ) (l : List ℕ) (held : ℕ) (l' : List ℕ) (h : ℕ) where
-  -- the chunk is used up before a newline
-  pub gather_open : up_to 10 (drop from chunk) ≡ drop from chunk → l' ≡ sets l held (drop from chunk)
-      → h ≡ held + min (length (drop from chunk)) (length l - held) → Gathers chunk from l held (record { held = h; next = None }) l'
-  gather_open e u v =
-      let a = ap length e in
-      let b = length-drop from chunk in
-      record {
-        bytes = u ∙ ap (sets l held) (sym e);
-        held' = v ∙ ap (λ (k : List ℕ). held + min (length k) (length l - held)) (sym e);
-        next = simp (le-ltb (from + length (part_of chunk from)) (length chunk) (omega arith));
-      }
-
-  pub gather_whole : (line : List ℕ) → line ≡ part_of chunk from → length (part_of chunk from) < length (drop from chunk) → l' ≡ sets l held line
-      → h ≡ held + min (length line) (length l - held) → Gathers chunk from l held (record { held = h; next = Some (from + length line + 1) }) l'
-  gather_whole line p f u v =
-      let b = length-drop from chunk in
-      record {
-        bytes = u ∙ ap (sets l held) p;
-        held' = v ∙ ap (λ (k : List ℕ). held + min (length k) (length l - held)) p;
-        next = ap (λ (k : List ℕ). Some (from + length k + 1)) p ∙ simp (lt-ltb (from + length (part_of chunk from)) (length chunk) (omega arith));
-      }
+-- ---- what a caller's loop needs: the buffer holds what is held, and every turn goes on
 
 pick_some : (b : Bool) (x n : ℕ) → pick b (Some x) None ≡ Some n → (b ≡ true) × (x ≡ n)
 pick_some true x n e = (refl, cc)
 pick_some false x n e = absurd (none-some n e)
-
--- ---- what a caller's loop needs: the buffer holds what is held, and every turn goes on
 
 module _ {chunk : List ℕ} {from : ℕ} {l : List ℕ} {held : ℕ} {r : Taken} {l' : List ℕ} (g : Gathers chunk from l held r l') where
   pub gathers_held : held ≤ length l → r.held ≤ length l

@@ -50,9 +50,6 @@ pub record Read (base : ℕ) (l : List ℕ) (v i : ℕ) : Type 0 where
   pub spells : spelled base 0 l ≡ spelled base v (drop i l)
   pub digits : every_in (is_digit base) l ≡ every_in (is_digit base) (drop i l)
 
-pub read_first : (base : ℕ) (l : List ℕ) → Read base l 0 0
-read_first base l = record { within = omega arith; small = omega arith; spells = refl; digits = refl }
-
 -- ---- the field
 
 module _ (base : ℕ) (l : List ℕ) where

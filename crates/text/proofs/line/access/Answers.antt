@@ -1,7 +1,6 @@
 -- `text::line::access` is what a line asks for from its enables on.
 -- By whether a word stands behind them, and whether one is asked for (LineLaws). Assumes nothing.
-use mathlib.Core.Path.{◌≡◌, sym, ap, ◌∙◌}
-use Rattle.std.specs.Prelude.{Some}
+use mathlib.Core.Path.{ap, ◌∙◌}
 use Rattle.chip.specs.Access.{writing}
 use Rattle.text.proofs.LineLaws.{no_enables, no_word, word_unasked, word_missing, asks_with_word, asks_alone}
 use Rattle.text.proofs.line.access.Goals as goal

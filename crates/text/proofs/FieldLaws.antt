@@ -1,15 +1,19 @@
 -- The bytes before a separator, found from any place on, and the fields of a line one after the other.
 -- By induction on the line and by cases on its first byte. Assumes nothing.
-use Prim.Native.Nat.{ℕ, suc, ◌+◌, ◌<◌, ◌≤◌}
+use Prim.Native.Nat.{ℕ, suc, ◌+◌, ◌-◌, ◌<◌, ◌≤◌}
 use mathlib.Core.Bool.{true, false}
 use mathlib.Core.List.{List, [], ◌∷◌}
-use mathlib.Core.Path.{◌≡◌, refl, sym, ap, subst, ◌∙◌}
+use mathlib.Core.Path.{◌≡◌, refl, sym, ap, subst, ap₂, ◌∙◌}
 use native.Mathlib.Nat.{not-suc-le-zero}
 use native.Mathlib.Omega.{arith}
-use borrow.Author.Tests.{eq-eqb, ne_eqb}
+use borrow.Author.Tests.{ltb-true, ltb-false}
 use lib.Dec.{eqb}
-use lib.ListN.{length, get_or, take, drop, length-drop}
-use lib.Seq.{drop-cons}
+use lib.ListN.{length, take, drop, length-drop}
+use lib.Seq.{take_all}
+use Rattle.std.proofs.Common.{Bor, MatchOption}
+use Rattle.std.specs.List.{position_or_len}
+use Rattle.std.specs.Prelude.{◌==◌, nat_lt, position, cond, unwrap_or, Option, Some, None}
+use Rattle.std.proofs.lemmas.Option.{cond_some, none-some}
 use Rattle.bits.proofs.Cases.{by_test}
 use Rattle.text.specs.Gather.{up_to}
 use Rattle.text.specs.Line.{fields_of, longer}
@@ -43,39 +47,50 @@ up_to_take b (c ∷ l) =
     (λ e. subst (λ (k : List ℕ). take (length k) (c ∷ l) ≡ k) (sym (up_to_hit b c l e)) refl)
     (λ e. subst (λ (k : List ℕ). take (length k) (c ∷ l) ≡ k) (sym (up_to_miss b c l e)) (ap {B = List ℕ} (λ k. c ∷ k) (up_to_take b l)))
 
--- a search has come to place i: so many before it, and what is before the byte from there on
-abbrev pub Sought : ℕ → List ℕ → ℕ → Type 0
-Sought b l i = (i ≤ length l) × (length (up_to b l) ≡ i + length (up_to b (drop i l)))
+-- all of them, where the byte is none of them
+pub up_to_all : (b : ℕ) (l : List ℕ) → length l ≤ length (up_to b l) → up_to b l ≡ l
+up_to_all b l h = sym (up_to_take b l) ∙ take_all (length (up_to b l)) l h
 
-module _ (b : ℕ) (l : List ℕ) (i : ℕ) where
-  pub sought_here : i < length l → Sought b l i → get_or l i 0 ≡ b → i ≡ length (up_to b l)
-  sought_here h s e =
-      let z : length (up_to b (drop i l)) ≡ 0 =
-      subst (λ (k : List ℕ). length (up_to b k) ≡ 0) (sym (drop-cons l i 0 h)) (ap length (up_to_hit b (get_or l i 0) (drop (suc i) l) (eq-eqb (get_or l i 0) b e)))
-      in
-      let q = s.1 in
-      omega arith
+-- where the library finds the byte
+place_is : (b : ℕ) (l : List ℕ) → position_or_len (λ c. c == b) l ≡ length (up_to b l)
+place_is b [] = ap length (sym (up_to_none b))
+place_is b (c ∷ l) =
+    by_test (eqb c b)
+    (λ e. simp (e, up_to_hit b c l e))
+    (λ e. simp (e, up_to_miss b c l e) (let h = place_is b l in omega arith))
 
-  pub sought_on : i < length l → Sought b l i → (get_or l i 0 ≡ b → ⊥) → Sought b l (i + 1)
-  sought_on h s e =
-      let z : length (up_to b (drop i l)) ≡ suc (length (up_to b (drop (suc i) l))) =
-      subst (λ (k : List ℕ). length (up_to b k) ≡ suc (length (up_to b (drop (suc i) l)))) (sym (drop-cons l i 0 h))
-      (ap length (up_to_miss b (get_or l i 0) (drop (suc i) l) (ne_eqb (get_or l i 0) b e)))
-      in
-      let q = s.1 in
-      let j : i + 1 ≡ suc i = omega arith in
-      (omega arith, subst (λ (k : ℕ). length (up_to b l) ≡ k + length (up_to b (drop k l))) (sym j) (omega arith))
+pub place_at : (b : ℕ) (l : List ℕ) → position (λ c. c == b) l ≡ cond (nat_lt (length (up_to b l)) (length l)) (Some (length (up_to b l))) None
+place_at b l = ap (λ (n : ℕ). cond (nat_lt n (length l)) (Some n) None) (place_is b l)
 
-  pub sought_end : length l ≤ i → Sought b l i → i ≡ length (up_to b l)
-  sought_end h s =
-      let q = s.1 in
-      let n = up_to_le b (drop i l) in
-      let d = length-drop i l in
-      let g = s.0 in
-      omega arith
+pub place_or_end : (b : ℕ) (l : List ℕ) → unwrap_or (position (λ c. c == b) l) (length l) ≡ length (up_to b l)
+place_or_end b l =
+    by_test (nat_lt (length (up_to b l)) (length l))
+    (λ t. ap (λ (r : Option ℕ). unwrap_or r (length l)) (place_at b l) ∙ simp t)
+    (λ t. ap (λ (r : Option ℕ). unwrap_or r (length l)) (place_at b l) ∙ simp t (let h = up_to_le b l in let n = ltb-false (length (up_to b l)) (length l) t in omega arith))
 
-pub sought_first : (b : ℕ) (l : List ℕ) → Sought b l 0
-sought_first b l = (omega arith, omega arith)
+pub place_found : (b : ℕ) (l : List ℕ) (n : ℕ) → Some n ≡ position (λ c. c == b) l → (n ≡ length (up_to b l)) × (length (up_to b l) < length l)
+place_found b l n e =
+    let s = cond_some (nat_lt (length (up_to b l)) (length l)) (length (up_to b l)) n (sym (place_at b l) ∙ sym e) in
+    (sym s.1, ltb-true (length (up_to b l)) (length l) s.0)
+
+pub place_none : (b : ℕ) (l : List ℕ) → None ≡ position (λ c. c == b) l → up_to b l ≡ l
+place_none b l e =
+    by_test (nat_lt (length (up_to b l)) (length l))
+    (λ t. absurd (none-some (length (up_to b l)) (e ∙ place_at b l ∙ simp t)))
+    (λ t. up_to_all b l (ltb-false (length (up_to b l)) (length l) t))
+
+-- the line parted there
+pub parted_none : (r : Option (Bor (List ℕ) × Bor (List ℕ))) (b : ℕ) (l : List ℕ) → r ≡ None → up_to b l ≡ l
+    → MatchOption r (up_to b l ≡ l) (λ p. (p.0.now ≡ up_to b l) × (p.1.now ≡ drop (suc (length (up_to b l))) l) × (length (up_to b l) < length l))
+parted_none r b l e h =
+    subst (λ (o : Option (Bor (List ℕ) × Bor (List ℕ))). MatchOption o (up_to b l ≡ l) (λ p. (p.0.now ≡ up_to b l) × (p.1.now ≡ drop (suc (length (up_to b l))) l) × (length (up_to b l) < length l))) (sym e) h
+
+pub parted_at : (b : ℕ) (l : List ℕ) (n : ℕ) → Some n ≡ position (λ c. c == b) l
+    → (take n l ≡ up_to b l) × (take (length l - (n + 1)) (drop (n + 1) l) ≡ drop (suc (length (up_to b l))) l) × (length (up_to b l) < length l)
+parted_at b l n e =
+    let p = place_found b l n e in
+    let j : n + 1 ≡ suc (length (up_to b l)) = let q = p.0 in omega arith in
+    (ap (λ (k : ℕ). take k l) p.0 ∙ up_to_take b l, take_all (length l - (n + 1)) (drop (n + 1) l) (let h = length-drop (n + 1) l in omega arith) ∙ ap (λ (k : ℕ). drop k l) j, p.1)
 
 -- ---- fields
 
@@ -114,3 +129,10 @@ fields_more (c ∷ l) h =
     let y : length (up_to 32 l) < length l = omega arith in
     subst (λ (k : List ℕ). fields_of (c ∷ l) ≡ k ∷ fields_of (drop (suc (length k)) (c ∷ l))) (sym (up_to_miss 32 c l t))
     (fields_miss c l t ∙ ap (longer c) (fields_more l y)))
+
+-- a line's first field, and the others behind its space
+pub fields_parted : (l : List ℕ) (r : Option (Bor (List ℕ) × Bor (List ℕ)))
+    → MatchOption r (up_to 32 l ≡ l) (λ p. (p.0.now ≡ up_to 32 l) × (p.1.now ≡ drop (suc (length (up_to 32 l))) l) × (length (up_to 32 l) < length l))
+    → MatchOption r (fields_of l ≡ l ∷ []) (λ p. fields_of l ≡ p.0.now ∷ fields_of p.1.now)
+fields_parted l None e = fields_last l (ap length e)
+fields_parted l (Some p) e = fields_more l e.2 ∙ ap₂ (λ (f g : List ℕ). f ∷ fields_of g) (sym e.0) (sym e.1)

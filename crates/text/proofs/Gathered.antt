@@ -55,7 +55,7 @@ module _ {chunk : List ℕ} {from : ℕ} {l : List ℕ} {held : ℕ} {r : Taken}
       record {
         count = counted (length line) (length p) (length l) held r.held (length l') (length (line ++ p)) k s q (gathers_length g) (length-append line p);
         same =
-            ap (take r.held) (g.bytes ∙ sym (copy_all p l held (length l - held) m refl refl) ∙ sets-eq (take m p) l held (omega arith)) ∙ take_at (take held l ++ take m p) (drop (held + length (take m p)) l) r.held size ∙ whole ∙ sym (take-append-add line p m) ∙ ap (λ (n : ℕ). take n (line ++ p)) reach;
+            ap (take r.held) (g.bytes ∙ sym (copy_all p l held) ∙ sets-eq (take m p) l held (omega arith)) ∙ take_at (take held l ++ take m p) (drop (held + length (take m p)) l) r.held size ∙ whole ∙ sym (take-append-add line p m) ∙ ap (λ (n : ℕ). take n (line ++ p)) reach;
       }
 
   -- the line has filled the buffer already

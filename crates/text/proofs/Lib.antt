@@ -8,4 +8,3 @@ pub mod Gathered
 pub mod OneOutcome
 pub mod Examples
 pub mod SizeLaws
-pub mod ShownLaws

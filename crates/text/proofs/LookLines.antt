@@ -14,22 +14,21 @@ use Rattle.chip.specs.declared.Access.{Access}
 use Rattle.chip.specs.declared.Kind.{Kind}
 use Rattle.chip.specs.declared.Kind.TheVariants.{Read, Write, Look}
 use Rattle.chip.specs.Access.{writing}
-use Rattle.text.specs.declared.Asked.{Asked}
-use Rattle.text.specs.declared.Asked.TheVariants.{Bad, For}
+use Rattle.std.specs.Prelude.{Option, Some, None, option_and_then}
 use Rattle.text.specs.Line.{is_number, spelled, target_in, fields_of, longer, word_next, enables_next, offset_next, target_next, kind_next, kind_first, line_of}
 use Rattle.text.proofs.FieldLaws.{fields_hit, fields_miss}
 
 -- nothing is asked for, or an access whose kind has P
-data Kept (P : Kind → Type 0) : Asked → Type 0 where
-  bad : Kept P Bad
-  asks : (a : Access) → P a.kind → Kept P (For a)
+data Kept (P : Kind → Type 0) : Option Access → Type 0 where
+  bad : Kept P None
+  asks : (a : Access) → P a.kind → Kept P (Some a)
 
-kept_for : (P : Kind → Type 0) (q : Asked) (a : Access) → Kept P q → q ≡ For a → P a.kind
-kept_for P Bad a bad e = let z : ◌≡◌ {A = ℕ} 0 1 = cc in absurd (omega arith)
-kept_for P (For b) a (asks d p) e = let s : b ≡ a = cc in subst (λ (c : Access). P c.kind) s p
+kept_for : (P : Kind → Type 0) (q : Option Access) (a : Access) → Kept P q → q ≡ Some a → P a.kind
+kept_for P None a bad e = let z : ◌≡◌ {A = ℕ} 0 1 = cc in absurd (omega arith)
+kept_for P (Some b) a (asks d p) e = let s : b ≡ a = cc in subst (λ (c : Access). P c.kind) s p
 
 module _ (P : Kind → Type 0) where
-  either : (t : Bool) (p q : Asked) → Kept P p → Kept P q → Kept P (pick t p q)
+  either : (t : Bool) (p q : Option Access) → Kept P p → Kept P q → Kept P (pick t p q)
   either true p q x y = x
   either false p q x y = y
 
@@ -54,7 +53,11 @@ module _ (P : Kind → Type 0) where
     target_kept : (fs : List (List ℕ)) → Kept P (target_next k fs)
     unfolding target_next
     target_kept [] = bad
-    target_kept (t ∷ fs) = either (ltb (target_in t) 10) _ _ (offset_kept _ fs) bad
+    target_kept (t ∷ fs) = then_kept (target_in t)
+      where
+        then_kept : (n : Option ℕ) → Kept P (option_and_then (λ n. offset_next k n fs) n)
+        then_kept None = bad
+        then_kept (Some n) = offset_kept n fs
 
   module _ (r : P Read) (w : P Write) where
     kind_kept : (fs : List (List ℕ)) → Kept P (kind_first false fs)
@@ -69,7 +72,7 @@ module _ (P : Kind → Type 0) where
     line_kept l = either (ltb 64 (length l)) _ _ bad (kind_kept (fields_of l))
 
 -- a line of a trace is no look
-pub trace_looks_not : (l : List ℕ) (a : Access) → line_of false l ≡ For a → a.kind ≡ Look → ⊥
+pub trace_looks_not : (l : List ℕ) (a : Access) → line_of false l ≡ Some a → a.kind ≡ Look → ⊥
 trace_looks_not l a e =
     kept_for (λ k. (k ≡ Look → ⊥)) (line_of false l) a (line_kept (λ k. (k ≡ Look → ⊥)) (λ q. read_not q) (λ q. write_not q) l) e
   where
@@ -105,4 +108,4 @@ module _ (c : ℕ) (n : c ≡ 108 → ⊥) where
   -- what does not begin with l asks explain for what it asks a trace for
   pub other_lines_alike : (l : List ℕ) → line_of true (c ∷ l) ≡ line_of false (c ∷ l)
   unfolding line_of
-  other_lines_alike l = ap (pick (ltb 64 (length (c ∷ l))) Bad) (same_kind l)
+  other_lines_alike l = ap (pick (ltb 64 (length (c ∷ l))) None) (same_kind l)

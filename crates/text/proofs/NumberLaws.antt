@@ -1,6 +1,6 @@
 -- What a digit counts, test by test, and a number's digits one by one.
 -- By cases on the tests; 16 to the power of at most seven is below 2 ^ 28 by computing. Assumes nothing.
-use Prim.Native.Nat.{ℕ, suc, ◌+◌, ◌-◌, ◌*◌, ◌^◌, ◌<◌, ◌≤◌}
+use Prim.Native.Nat.{ℕ, suc, ◌+◌, ◌*◌, ◌^◌, ◌<◌, ◌≤◌}
 use mathlib.Core.Bool.{true, false}
 use mathlib.Core.List.{List, [], ◌∷◌}
 use mathlib.Core.Path.{◌≡◌, refl, sym, ap, subst, ◌∙◌}
@@ -10,51 +10,24 @@ use borrow.Author.Tests.{lt-ltb, le-ltb, le-leb, lt-leb, leb-true}
 use lib.Dec.{leb}
 use lib.ListN.{length, get_or, drop}
 use lib.Seq.{drop-cons, drop-length}
+use Rattle.std.specs.Char.{digit_value}
+use Rattle.std.specs.Prelude.{Some, None}
+use Rattle.std.proofs.lemmas.Bool.Decides.{nat_tests}
 use Rattle.bits.specs.Choose.{every_in}
 use Rattle.bits.proofs.Bools.{every_at, and_false}
-use Rattle.text.specs.declared.Field.{Field}
 use Rattle.text.specs.Line.{digit_of, is_digit, is_number, spelled, number_of}
 
 -- ---- a digit
 
-module _ (c : ℕ) where
-  pub digit_low : c < 48 → 16 ≡ digit_of c
+module _ (c base : ℕ) where
+  -- what the library counts is what a digit counts, in a base up to 16
+  pub digit_is : base ≤ 16 → digit_value c < base → digit_of c ≡ digit_value c
   unfolding digit_of
-  digit_low h = simp (lt-leb 48 c h, lt-leb 65 c (omega arith), lt-leb 97 c (omega arith))
+  digit_is b h = grind (arith, nat_tests)
 
-  pub digit_decimal : 48 ≤ c → c ≤ 57 → c - 48 ≡ digit_of c
+  pub digit_none : base ≤ 16 → base ≤ digit_value c → base ≤ digit_of c
   unfolding digit_of
-  digit_decimal g h = simp (le-leb 48 c g, le-leb c 57 h)
-
-  pub digit_between : 57 < c → c < 65 → 16 ≡ digit_of c
-  unfolding digit_of
-  digit_between g h = simp (lt-leb c 57 g, le-leb 48 c (omega arith), lt-leb 65 c h, lt-leb 97 c (omega arith))
-
-  pub digit_upper : 65 ≤ c → c ≤ 70 → c - 55 ≡ digit_of c
-  unfolding digit_of
-  digit_upper g h = simp (lt-leb c 57 (omega arith), le-leb 48 c (omega arith), le-leb 65 c g, le-leb c 70 h)
-
-  pub digit_middle : 70 < c → c < 97 → 16 ≡ digit_of c
-  unfolding digit_of
-  digit_middle g h =
-      simp (lt-leb c 57 (omega arith), le-leb 48 c (omega arith), le-leb 65 c (omega arith), lt-leb c 70 g, lt-leb 97 c h)
-
-  pub digit_lower : 97 ≤ c → c ≤ 102 → c - 87 ≡ digit_of c
-  unfolding digit_of
-  digit_lower g h =
-      simp (lt-leb c 57 (omega arith), le-leb 48 c (omega arith), le-leb 65 c (omega arith), lt-leb c 70 (omega arith), le-leb 97 c g, le-leb c 102 h)
-
-  pub digit_high : 102 < c → 16 ≡ digit_of c
-  unfolding digit_of
-  digit_high g =
-      simp (
-        lt-leb c 57 (omega arith),
-        le-leb 48 c (omega arith),
-        le-leb 65 c (omega arith),
-        lt-leb c 70 (omega arith),
-        le-leb 97 c (omega arith),
-        lt-leb c 102 g,
-      )
+  digit_none b h = grind (arith, nat_tests)
 
 -- ---- a number
 
@@ -77,8 +50,27 @@ pub record Read (base : ℕ) (l : List ℕ) (v i : ℕ) : Type 0 where
   pub spells : spelled base 0 l ≡ spelled base v (drop i l)
   pub digits : every_in (is_digit base) l ≡ every_in (is_digit base) (drop i l)
 
-pub read_first : (base : ℕ) (l : List ℕ) → Read base l 0 0
-read_first base l = record { within = omega arith; small = omega arith; spells = refl; digits = refl }
+-- ---- the field
+
+module _ (base : ℕ) (l : List ℕ) where
+  pub number_empty : length l ≡ 0 → None ≡ number_of base l
+  unfolding number_of is_number
+  number_empty e = simp (lt-leb 1 (length l) (omega arith))
+
+  pub number_long : 8 < length l → None ≡ number_of base l
+  unfolding number_of is_number
+  number_long h = simp (le-leb 1 (length l) (omega arith), lt-leb (length l) 8 h)
+
+  pub number_bad : every_in (is_digit base) l ≡ false → None ≡ number_of base l
+  unfolding number_of is_number
+  number_bad e = simp (e, and_false (leb (length l) 8), and_false (leb 1 (length l)))
+
+  pub number_good : (v : ℕ) → (length l ≡ 0 → ⊥) → length l ≤ 8 → (every_in (is_digit base) l ≡ true) × (spelled base 0 l ≡ v)
+      → Some v ≡ number_of base l
+  unfolding number_of is_number
+  number_good v n h e = simp (le-leb 1 (length l) (omega arith), le-leb (length l) 8 h, e.0, e.1)
+
+-- ---- its digits, one by one
 
 module _ (base : ℕ) (b : base ≤ 16) (l : List ℕ) (v i : ℕ) (h : i < length l) (r : Read base l v i) where
   first_passes : digit_of (get_or l i 0) < base → every_in (is_digit base) (get_or l i 0 ∷ drop (suc i) l) ≡ every_in (is_digit base) (drop (suc i) l)
@@ -98,9 +90,20 @@ module _ (base : ℕ) (b : base ≤ 16) (l : List ℕ) (v i : ℕ) (h : i < leng
         digits = r.digits ∙ ap (every_in (is_digit base)) (drop-cons l i 0 h) ∙ first_passes (subst (λ (k : ℕ). k < base) e g) ∙ ap (λ (k : ℕ). every_in (is_digit base) (drop k l)) (sym j);
       }
 
-  pub read_bad : (d : ℕ) → d ≡ digit_of (get_or l i 0) → base ≤ d → every_in (is_digit base) l ≡ false
-  read_bad d e g =
-      r.digits ∙ ap (every_in (is_digit base)) (drop-cons l i 0 h) ∙ first_fails (subst (λ (k : ℕ). base ≤ k) e g)
+  read_bad : base ≤ digit_of (get_or l i 0) → every_in (is_digit base) l ≡ false
+  read_bad g = r.digits ∙ ap (every_in (is_digit base)) (drop-cons l i 0 h) ∙ first_fails g
+
+  pub read_digit : (x d : ℕ) → x ≡ get_or l i 0 → digit_value x < base → d ≡ digit_value x → Read base l (v * base + d) (i + 1)
+  read_digit x d p g e =
+      let q = digit_is x base b g in
+      let o = ap digit_of p in
+      read_on d (omega arith) (omega arith)
+
+  pub read_stop : (x : ℕ) → x ≡ get_or l i 0 → (digit_value x < base → ⊥) → None ≡ number_of base l
+  read_stop x p n =
+      let q = digit_none x base b (omega arith) in
+      let o = ap digit_of p in
+      number_bad base l (read_bad (omega arith))
 
 pub read_all : (base : ℕ) (l : List ℕ) (v i : ℕ) → length l ≤ i → Read base l v i → (every_in (is_digit base) l ≡ true) × (spelled base 0 l ≡ v)
 unfolding spelled
@@ -108,26 +111,3 @@ read_all base l v i h r =
     let j : i ≡ length l = let w = r.within in omega arith in
     let e : drop i l ≡ [] = ap (λ (k : ℕ). drop k l) j ∙ drop-length l in
     (r.digits ∙ ap (every_in (is_digit base)) e, r.spells ∙ ap (spelled base v) e)
-
--- ---- the field
-
-abbrev pub none : Field
-none = record { good = false; value = 0 }
-
-module _ (base : ℕ) (l : List ℕ) where
-  pub number_empty : length l ≡ 0 → none ≡ number_of base l
-  unfolding number_of is_number
-  number_empty e = simp (lt-leb 1 (length l) (omega arith))
-
-  pub number_long : 8 < length l → none ≡ number_of base l
-  unfolding number_of is_number
-  number_long h = simp (le-leb 1 (length l) (omega arith), lt-leb (length l) 8 h)
-
-  pub number_bad : every_in (is_digit base) l ≡ false → none ≡ number_of base l
-  unfolding number_of is_number
-  number_bad e = simp (e, and_false (leb (length l) 8), and_false (leb 1 (length l)))
-
-  pub number_good : (v : ℕ) → (length l ≡ 0 → ⊥) → length l ≤ 8 → (every_in (is_digit base) l ≡ true) × (spelled base 0 l ≡ v)
-      → record { good = true; value = v } ≡ number_of base l
-  unfolding number_of is_number
-  number_good v n h e = simp (le-leb 1 (length l) (omega arith), le-leb (length l) 8 h, e.0, e.1)

@@ -2,8 +2,8 @@
 -- and what a person is shown.
 -- Each contract says what every part of the outcome is. Assumes nothing.
 use Prim.Native.Nat.{ℕ}
-use mathlib.Core.Bool.{Bool}
-use mathlib.Core.Path.{◌≡◌, ap, ap₂, ◌∙◌}
+use Rattle.std.specs.Prelude.{Option}
+use mathlib.Core.Path.{◌≡◌, ap₂}
 use Rattle.bits.proofs.Cases.{same_value}
 use Rattle.bits.proofs.Fixes.{Fixes, FixesBoth}
 use Rattle.text.specs.declared.Taken.{Taken}
@@ -17,9 +17,8 @@ use Rattle.text.proofs.shown.word.Reads as word
 use Rattle.text.proofs.shown.colour.Reads as colour
 
 -- a record is its fields
-taken : (r r' : Taken) → r.held ≡ r'.held → r.whole ≡ r'.whole → r.next ≡ r'.next → r ≡ r'
-taken r r' p q s =
-    ap (λ (h : ℕ). record { held = h; whole = r.whole; next = r.next }) p ∙ ap₂ (λ (w : Bool) (n : ℕ). record { held = r'.held; whole = w; next = n }) q s
+taken : (r r' : Taken) → r.held ≡ r'.held → r.next ≡ r'.next → r ≡ r'
+taken r r' p q = ap₂ (λ (h : ℕ) (n : Option ℕ). record { held = h; next = n }) p q
 
 pub read_one : Fixes read.Post
 read_one κs a r r' x x' p q = same_value p q
@@ -29,7 +28,7 @@ write_one κs a r r' x x' p q = (same_value p.ends q.ends, same_value p.holds q.
 
 pub gather_one : FixesBoth gather.Post (λ κs x. x.1.1.0.now)
 gather_one κs a r r' x x' p q =
-    (taken r r' (same_value p.held' q.held') (same_value p.whole q.whole) (same_value p.next q.next), same_value p.bytes q.bytes)
+    (taken r r' (same_value p.held' q.held') (same_value p.next q.next), same_value p.bytes q.bytes)
 
 pub find_one : Fixes find.Post
 find_one κs a r r' x x' p q = same_value p q

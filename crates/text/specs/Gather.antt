@@ -1,5 +1,5 @@
 -- A line's bytes, gathered from the chunks in which they arrive.
-use Rattle.std.specs.Prelude.{ℕ, ◌+◌, ◌-◌, min, List, [], ◌∷◌, ◌≡◌, eqb, ltb, length, take, drop}
+use Rattle.std.specs.Prelude.{ℕ, ◌+◌, ◌-◌, min, List, [], ◌∷◌, ◌≡◌, eqb, ltb, length, take, drop, Some, None}
 use Rattle.std.proofs.lemmas.List.Edits.{sets}
 use Rattle.bits.specs.Choose.{pick}
 use Rattle.text.specs.declared.Taken.{Taken}
@@ -14,12 +14,12 @@ abbrev pub part_of : List ℕ → ℕ → List ℕ
 part_of chunk from = up_to 10 (drop from chunk)
 
 -- it goes behind the `held` bytes of the line that are there. What the buffer can't hold is left out: one of 65 bytes, one more than a line may have,
--- sees a line that is too long by its length (proofs/Gathered.antt). `next` is where in the chunk to go on, and its end where nothing is left.
+-- sees a line that is too long by its length (proofs/Gathered.antt). `next` is where in the chunk to go on
+-- behind the newline, where there is one.
 pub record Gathers (chunk : List ℕ) (from : ℕ) (buffer : List ℕ) (held : ℕ) (r : Taken) (buffer' : List ℕ) : Type 0 where
   pub bytes : buffer' ≡ sets buffer held (part_of chunk from)
   pub held' : r.held ≡ held + min (length (part_of chunk from)) (length buffer - held)
-  pub whole : r.whole ≡ ltb (from + length (part_of chunk from)) (length chunk)
-  pub next : r.next ≡ min (from + length (part_of chunk from) + 1) (length chunk)
+  pub next : r.next ≡ pick (ltb (from + length (part_of chunk from)) (length chunk)) (Some (from + length (part_of chunk from) + 1)) None
 
 -- what a buffer has of a line: its first bytes, as many as the buffer can hold
 pub record Holds (buffer : List ℕ) (held : ℕ) (line : List ℕ) : Type 0 where

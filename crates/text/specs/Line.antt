@@ -1,12 +1,10 @@
 -- What a line of a trace, or of explain, asks for (01, Values to check; docs/DECISIONS.md, D-30, D-42). A line is given without its newline.
-use Rattle.std.specs.Prelude.{ℕ, ◌+◌, ◌-◌, ◌*◌, Bool, ◌&&◌, List, [], ◌∷◌, eqb, ltb, leb, length}
+use Rattle.std.specs.Prelude.{ℕ, ◌+◌, ◌-◌, ◌*◌, Bool, ◌&&◌, List, [], ◌∷◌, eqb, ltb, leb, length, Option, Some, None, option_and_then}
 use Rattle.bits.specs.Choose.{pick, every_in}
+use Rattle.chip.specs.declared.Access.{Access}
 use Rattle.chip.specs.declared.Kind.{Kind}
 use Rattle.chip.specs.declared.Kind.TheVariants.{Read, Write, Look}
 use Rattle.chip.specs.Access.{writing}
-use Rattle.text.specs.declared.Asked.{Asked}
-use Rattle.text.specs.declared.Asked.TheVariants.{Bad, For}
-use Rattle.text.specs.declared.Field.{Field}
 
 -- ---- one field
 
@@ -29,14 +27,14 @@ unfoldable pub spelled : ℕ → ℕ → List ℕ → ℕ
 spelled base v [] = v
 spelled base v (c ∷ f) = spelled base (v * base + digit_of c) f
 
-unfoldable pub number_of : ℕ → List ℕ → Field
-number_of base f = record { good = is_number base f; value = pick (is_number base f) (spelled base 0 f) 0 }
+unfoldable pub number_of : ℕ → List ℕ → Option ℕ
+number_of base f = pick (is_number base f) (Some (spelled base 0 f)) None
 
--- the target: one decimal digit; 10 for any other field
-unfoldable pub target_in : List ℕ → ℕ
-target_in [] = 10
-target_in (c ∷ []) = pick (ltb (digit_of c) 10) (digit_of c) 10
-target_in (c ∷ d ∷ f) = 10
+-- the target: one decimal digit
+unfoldable pub target_in : List ℕ → Option ℕ
+target_in [] = None
+target_in (c ∷ []) = pick (ltb (digit_of c) 10) (Some (digit_of c)) None
+target_in (c ∷ d ∷ f) = None
 
 -- ---- the fields of a line
 
@@ -53,39 +51,39 @@ fields_of (c ∷ l) = pick (eqb c 32) ([] ∷ fields_of l) (longer c (fields_of 
 -- ---- the fields in turn: r (114), w (119) or, where looks are asked for, l (108); target, offset, enables, for w a word, and nothing more
 
 -- nothing behind the enables is a read or a look, whose word nobody asks for and is 0; one field more is a write's word
-unfoldable pub word_next : Kind → ℕ → ℕ → ℕ → List (List ℕ) → Asked
+unfoldable pub word_next : Kind → ℕ → ℕ → ℕ → List (List ℕ) → Option Access
 word_next k t o e [] =
-    pick (writing k) Bad (For (record { target = t; offset = o; kind = k; enables = e; word = 0 }))
+    pick (writing k) None (Some (record { target = t; offset = o; kind = k; enables = e; word = 0 }))
 word_next k t o e (v ∷ []) =
     pick (writing k)
-    (pick (is_number 16 v) (For (record { target = t; offset = o; kind = k; enables = e; word = spelled 16 0 v })) Bad) Bad
-word_next k t o e (v ∷ x ∷ fs) = Bad
+    (pick (is_number 16 v) (Some (record { target = t; offset = o; kind = k; enables = e; word = spelled 16 0 v })) None) None
+word_next k t o e (v ∷ x ∷ fs) = None
 
-unfoldable pub enables_next : Kind → ℕ → ℕ → List (List ℕ) → Asked
-enables_next k t o [] = Bad
-enables_next k t o (e ∷ fs) = pick (is_number 16 e) (word_next k t o (spelled 16 0 e) fs) Bad
+unfoldable pub enables_next : Kind → ℕ → ℕ → List (List ℕ) → Option Access
+enables_next k t o [] = None
+enables_next k t o (e ∷ fs) = pick (is_number 16 e) (word_next k t o (spelled 16 0 e) fs) None
 
-unfoldable pub offset_next : Kind → ℕ → List (List ℕ) → Asked
-offset_next k t [] = Bad
-offset_next k t (o ∷ fs) = pick (is_number 16 o) (enables_next k t (spelled 16 0 o) fs) Bad
+unfoldable pub offset_next : Kind → ℕ → List (List ℕ) → Option Access
+offset_next k t [] = None
+offset_next k t (o ∷ fs) = pick (is_number 16 o) (enables_next k t (spelled 16 0 o) fs) None
 
-unfoldable pub target_next : Kind → List (List ℕ) → Asked
-target_next k [] = Bad
-target_next k (t ∷ fs) = pick (ltb (target_in t) 10) (offset_next k (target_in t) fs) Bad
+unfoldable pub target_next : Kind → List (List ℕ) → Option Access
+target_next k [] = None
+target_next k (t ∷ fs) = option_and_then (λ n. offset_next k n fs) (target_in t)
 
 -- the first field is one byte
-unfoldable pub kind_next : Bool → ℕ → List (List ℕ) → Asked
+unfoldable pub kind_next : Bool → ℕ → List (List ℕ) → Option Access
 kind_next looks c fs =
     pick (eqb c 114) (target_next Read fs)
     (pick (eqb c 119) (target_next Write fs)
-    (pick (looks && eqb c 108) (target_next Look fs) Bad))
+    (pick (looks && eqb c 108) (target_next Look fs) None))
 
-unfoldable pub kind_first : Bool → List (List ℕ) → Asked
-kind_first looks [] = Bad
-kind_first looks ([] ∷ fs) = Bad
+unfoldable pub kind_first : Bool → List (List ℕ) → Option Access
+kind_first looks [] = None
+kind_first looks ([] ∷ fs) = None
 kind_first looks ((c ∷ []) ∷ fs) = kind_next looks c fs
-kind_first looks ((c ∷ d ∷ f) ∷ fs) = Bad
+kind_first looks ((c ∷ d ∷ f) ∷ fs) = None
 
 -- a line of over 64 bytes is of no form. A line of a trace has no look (02, C-12; docs/DECISIONS.md, D-42): one of explain may
-unfoldable pub line_of : Bool → List ℕ → Asked
-line_of looks l = pick (ltb 64 (length l)) Bad (kind_first looks (fields_of l))
+unfoldable pub line_of : Bool → List ℕ → Option Access
+line_of looks l = pick (ltb 64 (length l)) None (kind_first looks (fields_of l))

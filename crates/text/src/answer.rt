@@ -1,34 +1,38 @@
 // The line that an answer is printed as.
-ghost use Rattle.std.specs.Prelude.{[], ◌∷◌, ◌++◌, ◌+◌, ◌≤◌, length};
+ghost use Rattle.std.specs.Prelude.{[], ◌∷◌, ◌++◌, ◌+◌, ◌≤◌};
 ghost use Rattle.text.specs.Numeral.{decimal_of, word_text};
 ghost use Rattle.text.specs.Answer.{answer_text, Wrote};
 
-use crate::numeral::{numeral, put};
+use crate::numeral::Line;
 
 // A number without leading zeros, and the byte that ends it.
-fn decimal(out: &mut [u8], at: usize, n: u32, last: u8) -> usize
-    requires { at + 11 ≤ length out.old }
-    ensures { Wrote (decimal_of n ++ (last ∷ [])) at out.old result out.new }
+fn decimal(line: &mut Line, n: u32, last: u8)
+    requires { line.old.at + 11 ≤ 40 }
+    ensures { Wrote (decimal_of n ++ (last ∷ [])) line.old.at line.old.bytes line.new.at line.new.bytes }
 {
-    let e = numeral(out, at, 10, 1, 10, n);
-    put(out, e, last)
+    line.numeral(10, 1, 10, n);
+    line.put(last);
 }
 
 // A word's eight digits, and a space.
-fn word(out: &mut [u8], at: usize, n: u32) -> usize
-    requires { at + 9 ≤ length out.old }
-    ensures { Wrote (word_text n ++ (32 ∷ [])) at out.old result out.new }
+fn word(line: &mut Line, n: u32)
+    requires { line.old.at + 9 ≤ 40 }
+    ensures { Wrote (word_text n ++ (32 ∷ [])) line.old.at line.old.bytes line.new.at line.new.bytes }
 {
-    let e = numeral(out, at, 16, 8, 8, n);
-    put(out, e, 32)
+    line.numeral(16, 8, 8, n);
+    line.put(b' ');
 }
 
 // Puts the line at the start of out, and answers its length, which is at most 40.
+// The library's `write!` promises its bytes only where it answers Ok, and `write_one` fixes them on every call.
 pub fn write(status: u32, shown: u32, known: u32, changed: u32, out: &mut [u8; 40]) -> usize
     ensures { Wrote (answer_text status shown known changed) 0 out.old result out.new }
 {
-    let a = decimal(out, 0, status, 32);
-    let b = word(out, a, shown);
-    let c = word(out, b, known);
-    decimal(out, c, changed, 10)
+    let mut line = Line { bytes: *out, at: 0 };
+    decimal(&mut line, status, b' ');
+    word(&mut line, shown);
+    word(&mut line, known);
+    decimal(&mut line, changed, b'\n');
+    *out = line.bytes;
+    line.at
 }

@@ -4,31 +4,16 @@ ghost use Rattle.std.proofs.lemmas.List.Edits.{sets};
 ghost use Rattle.text.specs.Gather.{Gathers};
 
 use crate::Taken;
-use crate::find::find;
-
-fn least(a: usize, b: usize) -> usize
-    ensures { result ≡ min a b }
-{
-    if a < b { a } else { b }
-}
-
-fn room(n: usize, held: usize) -> usize
-    ensures { result ≡ n - held }
-{
-    if n < held { 0 } else { n - held }
-}
+use crate::find::parted;
 
 // Copies s behind the bytes that are held, as far as the buffer goes, and answers how many are held then.
 fn copy(s: &[u8], buffer: &mut [u8], held: usize) -> usize
     ensures buffer_after { buffer.new ≡ sets buffer.old held s.now }
     ensures value { result ≡ held + min (length s.now) (length buffer.old - held) }
 {
-    let n = least(s.len(), room(buffer.len(), held));
-    let mut i = 0;
-    while i < n {
-        buffer[held + i] = s[i];
-        i += 1;
-    }
+    let from = held.min(buffer.len());
+    let n = s.len().min(buffer.len() - from);
+    buffer[from..from + n].copy_from_slice(&s[..n]);
     held + n
 }
 
@@ -36,26 +21,15 @@ fn copy(s: &[u8], buffer: &mut [u8], held: usize) -> usize
 pub fn gather(chunk: &[u8], from: usize, buffer: &mut [u8], held: usize) -> Taken
     ensures { Gathers chunk.now from buffer.old held result buffer.new }
 {
-    if chunk.len() <= from {
-        return Taken {
-            held,
-            whole: false,
-            next: chunk.len(),
-        };
-    }
-    let rest = &chunk[from..];
-    let n = find(rest, 10);
-    let now_held = copy(&rest[..n], buffer, held);
-    if n == rest.len() {
-        return Taken {
-            held: now_held,
-            whole: false,
-            next: chunk.len(),
-        };
-    }
-    Taken {
-        held: now_held,
-        whole: true,
-        next: from + n + 1,
+    let rest = chunk.get(from..).unwrap_or(&[]);
+    match parted(rest, b'\n') {
+        Some((line, _)) => Taken {
+            held: copy(line, buffer, held),
+            next: Some(from + line.len() + 1),
+        },
+        None => Taken {
+            held: copy(rest, buffer, held),
+            next: None,
+        },
     }
 }

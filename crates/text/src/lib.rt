@@ -10,34 +10,17 @@ pub mod gather; // gather.rt: a line's bytes, chunk by chunk
 pub mod panel; // panel.rt: a panel's size as an argument
 pub mod shown; // shown.rt: unknown bits and dots, for people
 
-use chip::Access;
-
-// What a line asks for: an access; Bad where it is of another form.
-#[derive(Clone, Copy)]
-pub enum Asked {
-    Bad,
-    For(Access),
-}
-
-// What a field spells; 0 where it is no number.
-#[derive(Clone, Copy)]
-pub struct Field {
-    pub good: bool,
-    pub value: u32,
-}
-
-// How far a chunk went: the bytes of the line that are held, whether its newline was met, and where in the chunk to go on.
+// How far a chunk went: how many bytes of the line are held, and where in the chunk to go on behind its newline; None where the chunk is used up
+// before one, so that the line goes on in the next chunk.
 #[derive(Clone, Copy)]
 pub struct Taken {
     pub held: usize,
-    pub whole: bool,
-    pub next: usize,
+    pub next: Option<usize>,
 }
 
-// A panel's size; 0 by 0 where it is of another form.
+// A panel's size, in dots.
 #[derive(Clone, Copy)]
 pub struct Size {
-    pub good: bool,
     pub width: u32,
     pub height: u32,
 }

@@ -1,127 +1,70 @@
-// What a line asks for. Each function takes the rest of the line from one field on.
-ghost use Rattle.std.specs.Prelude.{◌≡◌, []};
-ghost use Rattle.text.specs.Line.{line_of, fields_of, kind_next, target_next, offset_next, enables_next, word_next};
+// What a line asks for: its fields in turn, parted by single spaces.
+ghost use Rattle.std.specs.Prelude.{◌≡◌, [], ◌∷◌, ℕ, List, MatchOption, option_and_then};
+ghost use Rattle.text.specs.Line.{line_of, fields_of, kind_first, target_in, target_next, enables_next};
 
-use crate::Asked;
-use crate::find::find;
-use crate::number::{digit, number};
+use crate::find::parted;
+use crate::number::number;
 use chip::{Access, Kind};
 
-const SPACE: u8 = 32;
-
 // With looks, a line may ask for a look.
-pub fn read(s: &[u8], looks: bool) -> Asked
+#[tactic(auto, using(crate::proofs::LineLaws::line_long))]
+pub fn read(s: &[u8], looks: bool) -> Option<Access>
     ensures { result ≡ line_of looks s.now }
 {
     if 64 < s.len() {
-        return Asked::Bad;
+        return None;
     }
-    if find(s, SPACE) != 1 {
-        return Asked::Bad;
-    }
-    if s.len() == 1 {
-        return Asked::Bad;
-    }
-    kind(&s[2..], s[0], looks)
+    let (first, rest) = field(s)?;
+    let kind = kind(first, looks)?;
+    let (second, rest) = field(rest)?;
+    let target = target(second)?;
+    let (third, rest) = field(rest)?;
+    let offset = number(16, third)?;
+    access(rest, kind, target, offset)
 }
 
-// The first field is this byte alone.
-fn kind(s: &[u8], c: u8, looks: bool) -> Asked
-    ensures { result ≡ kind_next looks c (fields_of s.now) }
+// The first field, and the rest behind its space.
+fn field(s: &[u8]) -> Option<(&[u8], &[u8])>
+    ensures { MatchOption result (fields_of s.now ≡ s.now ∷ []) (λ p. fields_of s.now ≡ p.0.now ∷ fields_of p.1.now) }
 {
-    if c == b'r' {
-        return target(s, Kind::Read);
+    parted(s, b' ')
+}
+
+// The kind that the first field names; the fields behind it are the kind's.
+#[tactic(auto, unfolding(crate::specs::Line::kind_first, crate::specs::Line::kind_next))]
+fn kind(field: &[u8], looks: bool) -> Option<Kind>
+    ensures { (fs : List (List ℕ)) → kind_first looks (field.now ∷ fs) ≡ option_and_then (λ k. target_next k fs) result }
+{
+    match field {
+        [b'r'] => Some(Kind::Read),
+        [b'w'] => Some(Kind::Write),
+        [b'l'] if looks => Some(Kind::Look),
+        _ => None,
     }
-    if c == b'w' {
-        return target(s, Kind::Write);
-    }
-    if looks {
-        if c == b'l' {
-            return target(s, Kind::Look);
+}
+
+// One decimal digit.
+#[tactic(auto, using(crate::proofs::LineLaws::target_one, crate::proofs::LineLaws::target_long))]
+fn target(field: &[u8]) -> Option<u32>
+    ensures { result ≡ target_in field.now }
+{
+    let [digit] = field else {
+        return None;
+    };
+    char::from(*digit).to_digit(10)
+}
+
+// The enables, and behind them a write's word and nothing more.
+fn access(s: &[u8], kind: Kind, target: u32, offset: u32) -> Option<Access>
+    ensures { result ≡ enables_next kind target offset (fields_of s.now) }
+{
+    match (kind, field(s)) {
+        (Kind::Write, Some((enables, word))) => {
+            let enables = number(16, enables)?;
+            Some(Access::write(target, offset, enables, number(16, word)?))
         }
+        (Kind::Read, None) => Some(Access::read(target, offset, number(16, s)?)),
+        (Kind::Look, None) => Some(Access::look(target, offset, number(16, s)?)),
+        _ => None,
     }
-    Asked::Bad
-}
-
-#[tactic(auto, using(crate::proofs::LineLaws::target_bad, crate::proofs::LineLaws::target_more))]
-fn target(s: &[u8], k: Kind) -> Asked
-    ensures { result ≡ target_next k (fields_of s.now) }
-{
-    if find(s, SPACE) != 1 {
-        return Asked::Bad;
-    }
-    let t = digit(s[0]);
-    if 9 < t {
-        return Asked::Bad;
-    }
-    if s.len() == 1 {
-        return Asked::Bad;
-    }
-    offset(&s[2..], k, t)
-}
-
-fn offset(s: &[u8], k: Kind, t: u32) -> Asked
-    ensures { result ≡ offset_next k t (fields_of s.now) }
-{
-    let e = find(s, SPACE);
-    if e == s.len() {
-        return Asked::Bad;
-    }
-    let n = number(16, &s[..e]);
-    if !n.good {
-        return Asked::Bad;
-    }
-    enables(&s[e + 1..], k, t, n.value)
-}
-
-fn enables(s: &[u8], k: Kind, t: u32, o: u32) -> Asked
-    ensures { result ≡ enables_next k t o (fields_of s.now) }
-{
-    let e = find(s, SPACE);
-    let n = number(16, &s[..e]);
-    if !n.good {
-        return Asked::Bad;
-    }
-    if e == s.len() {
-        return ended(k, t, o, n.value);
-    }
-    word(&s[e + 1..], k, t, o, n.value)
-}
-
-// Nothing is left behind the enables.
-fn ended(k: Kind, t: u32, o: u32, e: u32) -> Asked
-    ensures { result ≡ word_next k t o e [] }
-{
-    if k.is_write() {
-        return Asked::Bad;
-    }
-    Asked::For(Access {
-        target: t,
-        offset: o,
-        kind: k,
-        enables: e,
-        word: 0,
-    })
-}
-
-fn word(s: &[u8], k: Kind, t: u32, o: u32, e: u32) -> Asked
-    ensures { result ≡ word_next k t o e (fields_of s.now) }
-{
-    if !k.is_write() {
-        return Asked::Bad;
-    }
-    if find(s, SPACE) != s.len() {
-        return Asked::Bad;
-    }
-    let n = number(16, s);
-    if !n.good {
-        return Asked::Bad;
-    }
-    Asked::For(Access {
-        target: t,
-        offset: o,
-        kind: k,
-        enables: e,
-        word: n.value,
-    })
 }

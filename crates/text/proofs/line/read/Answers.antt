@@ -1,27 +1,48 @@
 -- `text::line::read` is what a line asks for.
--- Test by test (LineLaws). Assumes nothing.
-use native.Mathlib.Omega.{arith}
-use Rattle.text.proofs.FieldLaws.{up_to_le}
-use Rattle.text.proofs.LineLaws.{line_long, line_short, kind_none, kind_last, kind_more}
+-- Field by field, as far as there are fields of the form (LineLaws). Assumes nothing.
+use mathlib.Core.Path.{sym, ap, ◌∙◌}
+use Rattle.text.specs.Line.{kind_first, target_next, offset_next}
+use Rattle.text.proofs.LineLaws.{line_short, kind_alone, target_alone, offset_alone, target_none, target_some, offset_none, offset_some}
 use Rattle.text.proofs.line.read.Goals as goal
 
-pub returns-then-s-gt64 : goal.returns-then-s-gt64
-returns-then-s-gt64 c = line_long _ _ c.if-s-gt64.true
+pub returns-in_err-first : goal.returns-in_err-first
+returns-in_err-first c =
+    c.from_residual.ensures ∙ sym (line_short _ _ c.if-s-gt64.false ∙ ap (kind_first c.args.looks) c.in_err-first.ensures ∙ kind_alone _ _)
 
-pub returns-then-find-ne1 : goal.returns-then-find-ne1
-returns-then-find-ne1 c = line_short _ _ c.if-s-gt64.false _ (kind_none _ _ c.find.ensures _ c.if-find-ne1.true)
+pub returns-in_err-kind : goal.returns-in_err-kind
+returns-in_err-kind c =
+    c.from_residual-in_err-kind.ensures
+    ∙ sym (line_short _ _ c.if-s-gt64.false ∙ ap (kind_first c.args.looks) c.in_ok-first.ensures ∙ c.in_err-kind.ensures _)
 
-pub returns-then-s-eq1 : goal.returns-then-s-eq1
-returns-then-s-eq1 c = line_short _ _ c.if-s-gt64.false _ (kind_last _ _ c.find.ensures c.if-find-ne1.false _ c.if-s-eq1.true)
+pub returns-in_err-second : goal.returns-in_err-second
+returns-in_err-second c =
+    c.from_residual-in_err-second.ensures
+    ∙ sym (line_short _ _ c.if-s-gt64.false ∙ ap (kind_first c.args.looks) c.in_ok-first.ensures ∙ c.in_ok-kind.ensures _
+    ∙ ap (target_next c.in_ok-kind.kind) c.in_err-second.ensures ∙ target_alone _ _)
 
-pub bounds-s-0 : goal.bounds-s-0
-bounds-s-0 c = let q = c.find.ensures in let h = up_to_le 32 c.args.s.now in omega arith
+pub returns-in_err-target : goal.returns-in_err-target
+returns-in_err-target c =
+    c.from_residual-in_err-target.ensures
+    ∙ sym (line_short _ _ c.if-s-gt64.false ∙ ap (kind_first c.args.looks) c.in_ok-first.ensures ∙ c.in_ok-kind.ensures _
+    ∙ ap (target_next c.in_ok-kind.kind) c.in_ok-second.ensures ∙ target_none _ _ _ c.in_err-target.ensures)
 
-pub slice_bounds-kind-count : goal.slice_bounds-kind-count
-slice_bounds-kind-count c = let q = c.find.ensures in let h = up_to_le 32 c.args.s.now in omega arith
+pub returns-in_err-third : goal.returns-in_err-third
+returns-in_err-third c =
+    c.from_residual-in_err-third.ensures
+    ∙ sym (line_short _ _ c.if-s-gt64.false ∙ ap (kind_first c.args.looks) c.in_ok-first.ensures ∙ c.in_ok-kind.ensures _
+    ∙ ap (target_next c.in_ok-kind.kind) c.in_ok-second.ensures ∙ target_some _ _ _ _ c.in_ok-target.ensures
+    ∙ ap (offset_next c.in_ok-kind.kind c.in_ok-target.target) c.in_err-third.ensures ∙ offset_alone _ _ _)
 
-pub slice_bounds-kind-start : goal.slice_bounds-kind-start
-slice_bounds-kind-start c = let q = c.find.ensures in let h = up_to_le 32 c.args.s.now in omega arith
+pub returns-in_err-offset : goal.returns-in_err-offset
+returns-in_err-offset c =
+    c.from_residual-in_err-offset.ensures
+    ∙ sym (line_short _ _ c.if-s-gt64.false ∙ ap (kind_first c.args.looks) c.in_ok-first.ensures ∙ c.in_ok-kind.ensures _
+    ∙ ap (target_next c.in_ok-kind.kind) c.in_ok-second.ensures ∙ target_some _ _ _ _ c.in_ok-target.ensures
+    ∙ ap (offset_next c.in_ok-kind.kind c.in_ok-target.target) c.in_ok-third.ensures ∙ offset_none _ _ _ _ c.in_err-offset.ensures)
 
 pub returns : goal.returns
-returns c = line_short _ _ c.if-s-gt64.false _ (kind_more _ _ c.find.ensures c.if-find-ne1.false _ c.if-s-eq1.false _ c.kind.ensures)
+returns c =
+    c.access.ensures
+    ∙ sym (line_short _ _ c.if-s-gt64.false ∙ ap (kind_first c.args.looks) c.in_ok-first.ensures ∙ c.in_ok-kind.ensures _
+    ∙ ap (target_next c.in_ok-kind.kind) c.in_ok-second.ensures ∙ target_some _ _ _ _ c.in_ok-target.ensures
+    ∙ ap (offset_next c.in_ok-kind.kind c.in_ok-target.target) c.in_ok-third.ensures ∙ offset_some _ _ _ _ _ c.in_ok-offset.ensures)

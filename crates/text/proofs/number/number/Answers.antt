@@ -1,23 +1,17 @@
 -- `text::number::number` is what a field spells.
 -- The digits one by one, of at most eight (NumberLaws). Assumes nothing.
 use native.Mathlib.Omega.{arith}
-use Rattle.text.proofs.NumberLaws.{read_first, read_on, read_bad, power_small, times_less, number_empty, number_bad}
+use Rattle.text.proofs.NumberLaws.{read_digit, read_stop, power_small, times_less}
 use Rattle.text.proofs.number.number.Goals as goal
 
-pub returns-then-s-eq0 : goal.returns-then-s-eq0
-returns-then-s-eq0 c = number_empty _ _ c.if-s-eq0.true
+pub overflow_mul-n : goal.overflow_mul-n
+overflow_mul-n c = let p = power_small c.loop-b.b-index (omega arith) in let s = c.loop-b.invariant.small in let m = times_less c.loop-b.n c.args.base c.requires.most in omega arith
 
-pub loop-i-init : goal.loop-i-init
-loop-i-init c = read_first _ _
+pub overflow_add-n : goal.overflow_add-n
+overflow_add-n c = let p = power_small c.loop-b.b-index (omega arith) in let s = c.loop-b.invariant.small in let m = times_less c.loop-b.n c.args.base c.requires.most in let b = c.requires.most in let v = c.in_ok-n.ensures.value in omega arith
 
-pub returns-then-base-d : goal.returns-then-base-d
-returns-then-base-d c = number_bad _ _ (read_bad _ c.requires _ _ _ c.loop-i-test.true c.loop-i.invariant _ c.digit-d.ensures c.if-base-d.true)
+pub loop-b-preserved : goal.loop-b-preserved
+loop-b-preserved c = read_digit _ c.requires.most _ _ _ c.loop-b-test.true c.loop-b.invariant _ _ c.from.ensures c.in_ok-n.ensures.value.0 c.in_ok-n.ensures.value.1
 
-pub overflow_mul-v : goal.overflow_mul-v
-overflow_mul-v c = let p = power_small c.loop-i.i (omega arith) in let s = c.loop-i.invariant.small in let m = times_less c.loop-i.v c.args.base c.requires in omega arith
-
-pub overflow_add-v : goal.overflow_add-v
-overflow_add-v c = let p = power_small c.loop-i.i (omega arith) in let s = c.loop-i.invariant.small in let m = times_less c.loop-i.v c.args.base c.requires in let b = c.requires in omega arith
-
-pub loop-i-preserved : goal.loop-i-preserved
-loop-i-preserved c = read_on _ c.requires _ _ _ c.loop-i-test.true c.loop-i.invariant _ c.digit-d.ensures c.if-base-d.false
+pub returns-in_err-n : goal.returns-in_err-n
+returns-in_err-n c = cc (read_stop _ c.requires.most _ _ _ c.loop-b-test.true c.loop-b.invariant _ c.from.ensures c.in_err-n.ensures.value)

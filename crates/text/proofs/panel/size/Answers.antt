@@ -1,23 +1,18 @@
 -- `text::panel::size` is a panel's size.
--- Where the x stands, and the numbers beside it (SizeLaws). Assumes nothing.
-use native.Mathlib.Omega.{arith}
-use Rattle.text.proofs.SizeLaws.{size_part, size_within, size_none, size_both}
+-- What stands before the x and behind it, and the numbers there (SizeLaws). Assumes nothing.
+use mathlib.Core.Path.{sym, ◌∙◌}
+use Rattle.text.proofs.SizeLaws.{size_alone, size_parted, width_none, height_none, both_some}
 use Rattle.text.proofs.panel.size.Goals as goal
 
-pub returns-then-e-s : goal.returns-then-e-s
-returns-then-e-s c = size_none _ _ c.find-e.ensures c.if-e-s.true
+pub returns-in_err-width : goal.returns-in_err-width
+returns-in_err-width c = c.from_residual.ensures ∙ sym (size_alone _ c.in_err-width.ensures)
 
-pub slice_bounds-decimal-end : goal.slice_bounds-decimal-end
-slice_bounds-decimal-end c = size_part _ _ c.find-e.ensures
+pub returns-in_err-decimal : goal.returns-in_err-decimal
+returns-in_err-decimal c = c.from_residual-in_err-decimal.ensures ∙ sym (size_parted _ _ _ c.in_ok-width.ensures ∙ width_none _ _ c.in_err-decimal.ensures)
 
-pub overflow_add-e : goal.overflow_add-e
-overflow_add-e c = let h = size_within _ _ c.find-e.ensures c.if-e-s.false in omega arith
-
-pub slice_bounds-decimal-count : goal.slice_bounds-decimal-count
-slice_bounds-decimal-count c = size_within _ _ c.find-e.ensures c.if-e-s.false
-
-pub slice_bounds-decimal-start : goal.slice_bounds-decimal-start
-slice_bounds-decimal-start c = size_within _ _ c.find-e.ensures c.if-e-s.false
+pub returns-in_err-decimal-2 : goal.returns-in_err-decimal-2
+returns-in_err-decimal-2 c =
+    c.from_residual-in_err-decimal-2.ensures ∙ sym (size_parted _ _ _ c.in_ok-width.ensures ∙ height_none _ _ _ c.in_ok-decimal.ensures c.in_err-decimal-2.ensures)
 
 pub returns : goal.returns
-returns c = size_both _ _ c.find-e.ensures c.if-e-s.false _ _ _ c.decimal-w.ensures c.decimal-h.ensures c.size_from.ensures
+returns c = sym (size_parted _ _ _ c.in_ok-width.ensures ∙ both_some _ _ _ _ c.in_ok-decimal.ensures c.in_ok-decimal-2.ensures)

@@ -1,5 +1,5 @@
 -- The measure is the number of places.
-use Rattle.text.proofs.numeral.+numeral.Given as goal
+use Rattle.text.proofs.numeral.Line.+numeral.Given as goal
 
 abbrev pub decreases-numeral : goal.decreases-numeral
 decreases-numeral l = l.places

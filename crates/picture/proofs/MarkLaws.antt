@@ -3,6 +3,7 @@
 use Prim.Native.Nat.{ℕ, suc, ◌*◌}
 use mathlib.Core.Bool.{Bool, true, false}
 use mathlib.Core.List.{List, [], ◌∷◌}
+use Rattle.std.specs.Prelude.{Option, Some, None, is_none}
 use mathlib.Core.Path.{◌≡◌, refl, sym, ap, ap₂, subst, ◌∙◌}
 use native.Mathlib.Omega.{arith}
 use borrow.Author.Tests.{eqb-true, eqb-false, lt-leb, le-leb, ltb-true, ltb-false}
@@ -13,11 +14,9 @@ use Rattle.bits.specs.Word.{inside}
 use Rattle.bits.proofs.Cases.{by_test}
 use Rattle.chip.specs.Palette.{entry_of}
 use Rattle.chip.specs.Picture.{ruled, beyond, colour_word, dot_entry, under_byte, chosen, redrawn_from, redrawn, diffs}
-use Rattle.picture.specs.declared.view.Shown.{Shown}
-use Rattle.picture.specs.declared.view.Shown.TheVariants.{All, Each}
 use Rattle.picture.specs.declared.view.View.{View}
 use Rattle.picture.specs.declared.view.Layout.{Layout}
-use Rattle.picture.specs.View.{fixed_in, viewed, dot_in, each_own, fits}
+use Rattle.picture.specs.View.{fixed_in, viewed, dot_in, fits}
 use Rattle.picture.specs.Draw.{Redraws, Part}
 use Rattle.picture.specs.Layout.{layout_of}
 use Rattle.picture.specs.Entry.{shows_byte, laid_marks, entry_marks}
@@ -27,18 +26,18 @@ use Rattle.picture.proofs.PokeLaws.{place_of, placed, unchanged}
 
 -- ---- the redraw
 
-module _ (v : View) (e : ℕ) (m : List ℕ) (a b : ℕ) (l : List ℕ) (t : Bool) (et : t ≡ each_own v.shown) where
-  pub marks_none : t ≡ false → Redraws (fits v v (length l)) (entry_marks v e m a) (entry_marks v e m b) l 0 l
+module _ (v : View) (e : ℕ) (m : List ℕ) (a b : ℕ) (l : List ℕ) where
+  pub marks_none : is_none v.shown ≡ false → Redraws (fits v v (length l)) (entry_marks v e m a) (entry_marks v e m b) l 0 l
   unfolding entry_marks
-  marks_none f = still_redraws _ _ _ l (λ j. simp (sym et ∙ f))
+  marks_none f = still_redraws _ _ _ l (λ j. simp f)
 
-  pub marks_drawn : (r : ℕ) (l' : List ℕ) (k : Layout) → t ≡ true → fits v v (length l) ≡ true → k ≡ layout_of v
+  pub marks_drawn : (r : ℕ) (l' : List ℕ) (k : Layout) → is_none v.shown ≡ true → fits v v (length l) ≡ true → k ≡ layout_of v
       → Part (laid_marks k v.mask e m a) (laid_marks k v.mask e m b) 0 (k.height * k.width) l r l'
       → Redraws (fits v v (length l)) (entry_marks v e m a) (entry_marks v e m b) l r l'
   unfolding entry_marks layout_of
   marks_drawn r l' k f g ek d =
       part_redraws _ _ _ (v.height * v.width) l r l' g (omega (arith, fit_size v v (length l) g))
-      (part_by_lem _ _ _ _ 0 (v.height * v.width) l r l' (λ j x y z. (sym (simp (sym et ∙ f)), sym (simp (sym et ∙ f))))
+      (part_by_lem _ _ _ _ 0 (v.height * v.width) l r l' (λ j x y z. (sym (simp f), sym (simp f)))
       (subst (λ (x : Layout). Part (laid_marks x v.mask e m a) (laid_marks x v.mask e m b) 0 (x.height * x.width) l r l') ek d))
 
 -- ---- by the rules
@@ -74,11 +73,11 @@ module _ (v : View) (p q m : List ℕ) (e a b : ℕ) (ea : a ≡ colour_word (en
       (unchanged 0 0 _ _ x refl (ap colour_word (other (inside (get_or m at 0) v.mask) (eqb-false (inside (get_or m at 0) v.mask) e u))))))
       (λ t. simp (t, le-leb (length m) at (ltb-false at (length m) t)) (unchanged 0 0 0x02000000 0x02000000 x refl refl))
 
-  by_shown : (h : Shown) (at x : ℕ) → chosen (pick (each_own h) (pick (shows_byte v.mask e m at) a 0) 0) (pick (each_own h) (pick (shows_byte v.mask e m at) b 0) 0) x
+  by_shown : (h : Option ℕ) (at x : ℕ) → chosen (pick (is_none h) (pick (shows_byte v.mask e m at) a 0) 0) (pick (is_none h) (pick (shows_byte v.mask e m at) b 0) 0) x
       ≡ chosen (ruled (fixed_in h) (pick (leb (length m) at) 0x02000000 (colour_word (entry_of p (inside (get_or m at 0) v.mask)))))
       (ruled (fixed_in h) (pick (leb (length m) at) 0x02000000 (colour_word (entry_of q (inside (get_or m at 0) v.mask))))) x
-  by_shown (All w) at x = unchanged 0 0 w w x refl refl
-  by_shown Each at x = under at x
+  by_shown (Some w) at x = unchanged 0 0 w w x refl refl
+  by_shown None at x = under at x
 
   marked : (j x : ℕ) → chosen (entry_marks v e m a j) (entry_marks v e m b j) x ≡ chosen (dot_in v p m j) (dot_in v q m j) x
   unfolding entry_marks layout_of under_byte beyond dot_entry viewed

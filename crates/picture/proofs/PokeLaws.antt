@@ -3,6 +3,7 @@
 use Prim.Native.Nat.{ℕ, ◌+◌, ◌/◌, ◌%◌, ◌<◌, ◌≤◌}
 use mathlib.Core.Bool.{Bool, true, false, ◌&&◌}
 use mathlib.Core.List.{List}
+use Rattle.std.specs.Prelude.{Option, Some, None}
 use mathlib.Core.Path.{◌≡◌, refl, sym, ap, ap₂, ◌∙◌}
 use native.Mathlib.Omega.{arith}
 use borrow.Author.Tests.{eqb-true, eqb-false, eq-eqb, lt-leb}
@@ -16,8 +17,6 @@ use Rattle.bits.proofs.Bools.{clash, and_first, and_second}
 use Rattle.chip.specs.Units.{at_byte}
 use Rattle.chip.specs.Palette.{entry_of}
 use Rattle.chip.specs.Picture.{row_start, dot_byte, ruled, beyond, colour_word, dot_entry, under_byte, under_at, laid_at, word_at, view_word, chosen}
-use Rattle.picture.specs.declared.view.Shown.{Shown}
-use Rattle.picture.specs.declared.view.Shown.TheVariants.{All, Each}
 use Rattle.picture.specs.declared.view.View.{View}
 use Rattle.picture.specs.View.{fixed_in, units_in, viewed, dot_in, byte_word, same_place, same_shown, same_view, fits}
 use Rattle.picture.specs.Draw.{Part}
@@ -73,14 +72,14 @@ places v n e =
     )
 
 -- a dot's word by what the view says of every dot, its place in memory and the mask
-abbrev word_by : Shown → List ℕ → List ℕ → (at mask : ℕ) → ℕ
+abbrev word_by : Option ℕ → List ℕ → List ℕ → (at mask : ℕ) → ℕ
 word_by h q m at mask = ruled (fixed_in h) (pick (leb (length m) at) 0x02000000 (colour_word (entry_of q (inside (get_or m at 0) mask))))
 
-same_shown_lem : (a b : Shown) (t : Bool) (q m : List ℕ) (at at' mask mask' : ℕ) → same_shown a b t ≡ true → (t ≡ true → (at ≡ at') × (mask ≡ mask')) → word_by a q m at mask ≡ word_by b q m at' mask'
-same_shown_lem (All x) (All y) t q m at at' mask mask' e h = eqb-true x y e
-same_shown_lem (All x) Each t q m at at' mask mask' e h = clash false e refl
-same_shown_lem Each (All y) t q m at at' mask mask' e h = clash false e refl
-same_shown_lem Each Each t q m at at' mask mask' e h = let z = h e in ap₂ (λ (i k : ℕ). word_by Each q m i k) z.0 z.1
+same_shown_lem : (a b : Option ℕ) (t : Bool) (q m : List ℕ) (at at' mask mask' : ℕ) → same_shown a b t ≡ true → (t ≡ true → (at ≡ at') × (mask ≡ mask')) → word_by a q m at mask ≡ word_by b q m at' mask'
+same_shown_lem (Some x) (Some y) t q m at at' mask mask' e h = eqb-true x y e
+same_shown_lem (Some x) None t q m at at' mask mask' e h = clash false e refl
+same_shown_lem None (Some y) t q m at at' mask mask' e h = clash false e refl
+same_shown_lem None None t q m at at' mask mask' e h = let z = h e in ap₂ (λ (i k : ℕ). word_by None q m i k) z.0 z.1
 
 pub same_words : (v n : View) (q m : List ℕ) (t : Bool) → t ≡ same_view v n → t ≡ true → (j : ℕ) → dot_in v q m j ≡ dot_in n q m j
 unfolding same_view under_byte beyond dot_entry viewed

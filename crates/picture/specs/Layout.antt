@@ -1,13 +1,13 @@
 -- What of a view the redraws read beside its table: one record, and the panel's dots by it.
-use Rattle.std.specs.Prelude.{ℕ, List}
+use Rattle.std.specs.Prelude.{ℕ, List, unwrap_or}
 use Rattle.picture.specs.declared.view.Layout.{Layout}
 use Rattle.picture.specs.declared.view.View.{View}
-use Rattle.picture.specs.View.{shown_word, units_in}
+use Rattle.picture.specs.View.{units_in}
 use Rattle.picture.specs.Draw.{look_at, Panel}
 
 unfoldable pub layout_of : View → Layout
 layout_of v =
-    record { past = shown_word v.shown 0x02000000; base = units_in v.base; stride = units_in v.stride; width = v.width; height = v.height }
+    record { past = unwrap_or v.shown 0x02000000; base = units_in v.base; stride = units_in v.stride; width = v.width; height = v.height }
 
 -- the words of the dots of a panel of some width
 abbrev pub laid_dots : Layout → ℕ → List ℕ → List ℕ → ℕ → ℕ

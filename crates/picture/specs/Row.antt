@@ -27,12 +27,6 @@ pub record Room (r : Row) (size : ℕ) : Type 0 where
   pub room : r.first + r.width ≤ size
   pub narrow : r.width ≤ 1024
 
--- r is the further of a and b
-pub record Further (a b r : ℕ) : Type 0 where
-  pub first : a ≤ r
-  pub second : b ≤ r
-  pub least : (k : ℕ) → a ≤ k → b ≤ k → r ≤ k
-
 -- the row up to its dot d
 abbrev pub cut_to : Row → ℕ → Row
 cut_to r d = record { old = r.old; new = r.new; first = r.first; width = d }

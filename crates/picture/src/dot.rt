@@ -31,7 +31,7 @@ fn choose(a: u32, b: u32, p: u32) -> u32
 fn differs(p: u32, q: u32) -> u32
     ensures { result ≡ pick (eqb p q) 0 1 }
 {
-    if p == q { 0 } else { 1 }
+    u32::from(p != q)
 }
 
 // The new word b at dot k where it differs from a; 1 where the dot's word changes.
@@ -45,20 +45,13 @@ pub(crate) fn put(picture: &mut [u32], k: usize, a: u32, b: u32) -> u32
     differs(p, q)
 }
 
-pub(crate) fn wide(x: u8) -> usize
-    ensures { (result ≡ x) × (result < 256) }
-{
-    x as usize
-}
-
 // The word of a dot whose byte is at a place: the table's, or the word past memory's end.
+#[tactic(auto, unfolding(crate::specs::Draw::look_of))]
 pub(crate) fn look<'a>(past: u32, at: Bytes, table: &'a [u32; 256], memory: &'a [u8]) -> u32
     ensures { result ≡ look_of past at.0 table.now memory.now }
 {
-    let k = at.index();
-    if k < memory.len() {
-        let b = wide(memory[k]);
-        return table[b];
+    match memory.get(at.index()) {
+        Some(b) => table[usize::from(*b)],
+        None => past,
     }
-    past
 }

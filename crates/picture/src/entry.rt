@@ -1,29 +1,19 @@
 // The dots that show one palette entry, by comparing masked bytes, with no table looked up.
 ghost use Rattle.std.specs.Prelude.{◌≡◌, ◌*◌, eqb, length};
 ghost use Rattle.bits.specs.Choose.{pick};
-ghost use Rattle.picture.specs.Draw.{RowDrawn, Inside, Part};
+ghost use Rattle.picture.specs.Draw.{RowDrawn, Part};
 ghost use Rattle.picture.specs.Entry.{row_marks, laid_marks, Strip};
 ghost use Rattle.picture.specs.Layout.{Laid};
 
+use crate::row::{draw, inside};
 use crate::view::{Layout, masked};
-use chip::{Bytes, in_bytes};
+use chip::Bytes;
 
 // The word where the byte is the entry, and 0 at every other: 0, and not the other word, so that the compiler takes all tests of the words out of the loop.
 fn only(byte: u8, e: u8, w: u32) -> u32
     ensures { result ≡ pick (eqb byte e) w 0 }
 {
     if byte == e { w } else { 0 }
-}
-
-// How many dots of a row lie inside memory.
-pub(crate) fn inside(row: Bytes, width: usize, size: usize) -> usize
-    ensures { Inside row.0 width size result }
-{
-    let at = row.index();
-    if size <= at {
-        return 0;
-    }
-    if width < size - at { width } else { size - at }
 }
 
 // The dots of a row that show entry e, from its word a to b: the row's bytes start at row, its dots at first.
@@ -42,14 +32,10 @@ fn entry_row<'a>(
     ensures { RowDrawn (row_marks mask e row.0 first memory.now a) (row_marks mask e row.0 first memory.now b) first width picture.old result picture.new }
 {
     let dots = inside(row, width, memory.len());
-    let mut n: u32 = 0;
-    let mut x = 0;
-    while x < dots {
+    draw(first, dots, picture, |x| {
         let v = masked(memory[row.index() + x], mask);
-        n += crate::dot::put(picture, first + x, only(v, e, a), only(v, e, b));
-        x += 1;
-    }
-    n
+        (only(v, e, a), only(v, e, b))
+    })
 }
 
 // Every dot whose masked byte is e, row after row.
@@ -65,16 +51,19 @@ pub(crate) fn entry_rows<'a>(
     requires { Laid l (length picture.old) }
     ensures { Part (laid_marks l mask e memory.now a) (laid_marks l mask e memory.now b) 0 (l.height * l.width) picture.old result picture.new }
 {
-    let height = l.height;
     let mut n: u32 = 0;
-    let mut u = l.base;
-    let mut first = 0;
-    let mut y = 0;
-    while y < height {
-        n += entry_row(mask, e, a, b, in_bytes(u), first, l.width, memory, picture);
-        u = u.plus(l.stride);
-        first += l.width;
-        y += 1;
+    for y in 0..l.height {
+        n += entry_row(
+            mask,
+            e,
+            a,
+            b,
+            l.row(y),
+            y * l.width,
+            l.width,
+            memory,
+            picture,
+        );
     }
     n
 }

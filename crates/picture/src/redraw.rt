@@ -1,38 +1,25 @@
 // A redraw for a change of view, and for a palette entry's store: one pass over the panel, and nothing where panel and picture do not fit.
 ghost use Rattle.std.specs.Prelude.{true, ◌≡◌, ◌*◌, length};
 ghost use Rattle.chip.specs.Sound.{panel_ok};
-ghost use Rattle.picture.specs.View.{dot_in, same_place, same_view, each_own, fits};
+ghost use Rattle.picture.specs.View.{dot_in, same_place, same_view, fits};
 ghost use Rattle.picture.specs.Entry.{entry_marks};
 ghost use Rattle.picture.specs.Draw.{Redraws, Part};
 
 use crate::entry::entry_rows;
-use crate::view::{Shown, View, fill_table, layout_of};
+use crate::view::{View, fill_table, layout_of};
 
+#[tactic(auto, unfolding(chip::specs::Sound::panel_ok))]
 pub fn panel_fits(width: u32, height: u32) -> bool
     ensures { result ≡ panel_ok width height }
 {
-    if width < 1 {
-        return false;
-    }
-    if 1024 < width {
-        return false;
-    }
-    if height < 1 {
-        return false;
-    }
-    height <= 1024
+    (1..=1024).contains(&width) && (1..=1024).contains(&height)
 }
 
+#[tactic(auto, using(crate::proofs::FitLaws::panel_product), unfolding(crate::specs::View::fits))]
 pub(crate) fn both_fit(v: View, n: View, size: usize) -> bool
     ensures { result ≡ fits v n size }
 {
-    if !panel_fits(v.width, v.height) {
-        return false;
-    }
-    if n.width != v.width {
-        return false;
-    }
-    size == (v.width * v.height) as usize
+    panel_fits(v.width, v.height) && n.width == v.width && size == (v.width * v.height) as usize
 }
 
 fn redraw_fit<'a>(
@@ -53,36 +40,22 @@ fn redraw_fit<'a>(
 }
 
 // The same base, stride, mask and width.
+#[tactic(auto, unfolding(crate::specs::View::same_place))]
 fn same_place(v: View, n: View) -> bool
     ensures { result ≡ same_place v n }
 {
-    if v.base != n.base {
-        return false;
-    }
-    if v.stride != n.stride {
-        return false;
-    }
-    if v.mask != n.mask {
-        return false;
-    }
-    v.width == n.width
+    (v.base, v.stride, v.mask, v.width) == (n.base, n.stride, n.mask, n.width)
 }
 
 // No dot's word differs: one word is every dot's before and after, as with the colour mode off, or each has its own and lies where it lay.
+#[tactic(auto, unfolding(crate::specs::View::same_view))]
 fn same_view(v: View, n: View) -> bool
     ensures { result ≡ same_view v n }
 {
-    let a = v.shown;
-    let b = n.shown;
-    match a {
-        Shown::All(x) => match b {
-            Shown::All(y) => x == y,
-            Shown::Each => false,
-        },
-        Shown::Each => match b {
-            Shown::All(y) => false,
-            Shown::Each => same_place(v, n),
-        },
+    match (v.shown, n.shown) {
+        (Some(x), Some(y)) => x == y,
+        (None, None) => same_place(v, n),
+        _ => false,
     }
 }
 
@@ -96,23 +69,10 @@ pub fn redraw<'a>(
 ) -> u32
     ensures { Redraws (fits v n (length picture.old)) (dot_in v palette.now memory.now) (dot_in n palette.now memory.now) picture.old result picture.new }
 {
-    if same_view(v, n) {
+    if same_view(v, n) || !both_fit(v, n, picture.len()) {
         return 0;
     }
-    if both_fit(v, n, picture.len()) {
-        return redraw_fit(v, n, palette, memory, picture);
-    }
-    0
-}
-
-// Where each dot has its own word.
-fn each_own(shown: Shown) -> bool
-    ensures { result ≡ each_own shown }
-{
-    match shown {
-        Shown::All(w) => false,
-        Shown::Each => true,
-    }
+    redraw_fit(v, n, palette, memory, picture)
 }
 
 // The dots that show palette entry e, as its word goes from a to b; the number of words that changed.
@@ -126,12 +86,8 @@ pub fn redraw_entry<'a>(
 ) -> u32
     ensures { Redraws (fits v v (length picture.old)) (entry_marks v e memory.now a) (entry_marks v e memory.now b) picture.old result picture.new }
 {
-    let shown = v.shown;
-    if !each_own(shown) {
+    if v.shown.is_some() || !both_fit(v, v, picture.len()) {
         return 0;
     }
-    if both_fit(v, v, picture.len()) {
-        return entry_rows(layout_of(v), v.mask, e, a, b, memory, picture);
-    }
-    0
+    entry_rows(layout_of(v), v.mask, e, a, b, memory, picture)
 }

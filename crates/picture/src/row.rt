@@ -1,10 +1,38 @@
 // One row, from the old layout to the new one.
-ghost use Rattle.std.specs.Prelude.{◌≡◌, ◌^◌, length};
-ghost use Rattle.picture.specs.Draw.{RowDrawn};
-ghost use Rattle.picture.specs.Row.{old_dots, new_dots, always, Reach, Room, From, Further, cut_to, rest_of};
+ghost use Rattle.std.specs.Prelude.{◌≡◌, ◌+◌, ◌^◌, ◌<◌, ◌≤◌, length};
+ghost use Rattle.picture.specs.Draw.{RowDrawn, Inside, Tells};
+ghost use Rattle.picture.specs.Row.{old_dots, new_dots, always, Reach, Room, From, cut_to, rest_of};
 
-use crate::dot::{Row, Start, look, put, wide};
-use crate::entry::inside;
+use crate::dot::{Row, Start, look, put};
+use chip::Bytes;
+
+// How many dots of a row lie inside memory.
+pub(crate) fn inside(row: Bytes, width: usize, size: usize) -> usize
+    ensures { Inside row.0 width size result }
+{
+    size.saturating_sub(row.index()).min(width)
+}
+
+// The dots from first on, as many as width says: words gives the word before and after of each, by its column.
+pub(crate) fn draw<F: Fn(usize) -> (u32, u32)>(
+    first: usize,
+    width: usize,
+    picture: &mut [u32],
+    words: F,
+) -> u32
+    requires room { first + width ≤ length picture.old }
+    requires narrow { width ≤ 1024 }
+    requires asked { (x : _) → x < width → F.pre words x }
+    ensures few { result ≤ width }
+    ensures drawn { (f : _) (g : _) → Tells (F.post words) f g first width → RowDrawn f g first width picture.old result picture.new }
+{
+    let mut n: u32 = 0;
+    for x in 0..width {
+        let (a, b) = words(x);
+        n += put(picture, first + x, a, b);
+    }
+    n
+}
 
 // Dot by dot, each asking where memory ends.
 fn draw_row<'a>(
@@ -17,16 +45,15 @@ fn draw_row<'a>(
     requires { Reach (2 ^ 41) row (length picture.old) }
     ensures { RowDrawn (old_dots row t0.now memory.now) (new_dots row t1.now memory.now) row.first row.width picture.old result picture.new }
 {
-    let width = row.width;
-    let mut n: u32 = 0;
-    let mut x = 0;
-    while x < width {
-        let a = look(row.old.past, row.old.at.along(x), t0, memory);
-        let b = look(row.new.past, row.new.at.along(x), t1, memory);
-        n += put(picture, row.first + x, a, b);
-        x += 1;
-    }
-    n
+    draw(
+        row.first,
+        row.width,
+        picture,
+        |x| (
+            look(row.old.past, row.old.at.along(x), t0, memory),
+            look(row.new.past, row.new.at.along(x), t1, memory),
+        ),
+    )
 }
 
 // The row from its dot d on.
@@ -36,12 +63,12 @@ fn rest_of(row: Row, d: usize) -> Row
 {
     Row {
         old: Start {
-            past: row.old.past,
             at: row.old.at.along(d),
+            ..row.old
         },
         new: Start {
-            past: row.new.past,
             at: row.new.at.along(d),
+            ..row.new
         },
         first: row.first + d,
         width: row.width - d,
@@ -52,14 +79,7 @@ fn rest_of(row: Row, d: usize) -> Row
 fn cut_to(row: Row, d: usize) -> Row
     ensures { result ≡ cut_to row d }
 {
-    let old = row.old;
-    let new = row.new;
-    Row {
-        old,
-        new,
-        first: row.first,
-        width: d,
-    }
+    Row { width: d, ..row }
 }
 
 // A row none of whose bytes lies in memory, in either layout.
@@ -72,20 +92,7 @@ fn past_row(row: Row, picture: &mut [u32]) -> u32
     if a == b {
         return 0;
     }
-    let width = row.width;
-    let mut n: u32 = 0;
-    let mut x = 0;
-    while x < width {
-        n += put(picture, row.first + x, a, b);
-        x += 1;
-    }
-    n
-}
-
-fn further(a: usize, b: usize) -> usize
-    ensures { Further a b result }
-{
-    if a < b { b } else { a }
+    draw(row.first, row.width, picture, |_| (a, b))
 }
 
 // The rest of a row, dot by dot as far as it lies in memory in one layout; past memory's end in both no dot is looked up, and mostly none changes.
@@ -101,7 +108,7 @@ fn rest_row<'a>(
 {
     let one = inside(row.old.at, row.width, memory.len());
     let two = inside(row.new.at, row.width, memory.len());
-    let d = further(one, two);
+    let d = one.max(two);
     let n = draw_row(cut_to(row, d), t0, t1, memory, picture);
     n + past_row(rest_of(row, d), picture)
 }
@@ -119,13 +126,10 @@ pub(crate) fn both_row<'a>(
 {
     let one = inside(row.old.at, row.width, memory.len());
     let dots = inside(row.new.at, one, memory.len());
-    let mut n: u32 = 0;
-    let mut x = 0;
-    while x < dots {
-        let v = wide(memory[row.old.at.index() + x]);
-        let w = wide(memory[row.new.at.index() + x]);
-        n += put(picture, row.first + x, t0[v], t1[w]);
-        x += 1;
-    }
+    let n = draw(row.first, dots, picture, |x| {
+        let v = memory[row.old.at.index() + x];
+        let w = memory[row.new.at.index() + x];
+        (t0[usize::from(v)], t1[usize::from(w)])
+    });
     n + rest_row(rest_of(row, dots), t0, t1, memory, picture)
 }

@@ -1,27 +1,22 @@
 // What the picture reads of a bank, by value: the word of every dot, base, stride and mask, and the panel. And the words of the 256 bytes by a view and a
 // palette.
-ghost use Rattle.std.specs.Prelude.{◌≡◌, length};
+ghost use Rattle.std.specs.Prelude.{◌≡◌, ◌<◌, ◌≤◌, length, unwrap_or};
 ghost use Rattle.bits.specs.Word.{inside};
 ghost use Rattle.chip.specs.Palette.{entry_of};
 ghost use Rattle.chip.specs.View.{mask_of, not_indexed, unplaced};
 ghost use Rattle.chip.specs.Picture.{colour_word};
-ghost use Rattle.picture.specs.View.{shown_in, view_in, units_in, shown_word, byte_word};
+ghost use Rattle.picture.specs.View.{shown_in, view_in, units_in, byte_word};
 ghost use Rattle.picture.specs.Draw.{TableFrom};
 ghost use Rattle.picture.specs.Layout.{layout_of};
+ghost use Rattle.picture.specs.Poke.{row_byte};
 
-use chip::{COLOR_MODE, PIXEL_MASK, ROWS, SCREEN_BASE, SCREEN_STRIDE, Units};
-
-// The word of every dot, by rule 1 or 2, or each dot its own.
-#[derive(Clone, Copy)]
-pub enum Shown {
-    All(u32),
-    Each,
-}
+use chip::{Bytes, COLOR_MODE, PIXEL_MASK, ROWS, SCREEN_BASE, SCREEN_STRIDE, Units, in_bytes};
 
 // Base and stride are ScreenBase and ScreenStride as the bank holds them: bits 0 to 19 count, in units of eight bytes. So every value is a view.
 #[derive(Clone, Copy)]
 pub struct View {
-    pub shown: Shown,
+    // the word of every dot, where rule 1 or 2 gives it; none where each dot has its own
+    pub shown: Option<u32>,
     pub base: u32,
     pub stride: u32,
     pub mask: u8,
@@ -29,37 +24,36 @@ pub struct View {
     pub height: u32,
 }
 
+#[tactic(auto, unfolding(chip::specs::View::not_indexed))]
 fn not_indexed(values: &[u32; ROWS]) -> bool
     ensures { result ≡ not_indexed values.now }
 {
-    let mode = values[COLOR_MODE];
-    mode % 32 != 0x10
+    values[COLOR_MODE] % 32 != 0x10
 }
 
+#[tactic(auto, unfolding(chip::specs::View::unplaced))]
 fn is_unplaced(knowns: &[u32; ROWS]) -> bool
     ensures { result ≡ unplaced knowns.now }
 {
-    if knowns[SCREEN_BASE] % 0x100000 != 0xFFFFF {
-        return true;
-    }
-    if knowns[SCREEN_STRIDE] % 0x100000 != 0xFFFFF {
-        return true;
-    }
-    knowns[PIXEL_MASK] % 256 != 0xFF
+    knowns[SCREEN_BASE] % 0x100000 != 0xFFFFF
+        || knowns[SCREEN_STRIDE] % 0x100000 != 0xFFFFF
+        || knowns[PIXEL_MASK] % 256 != 0xFF
 }
 
-fn shown_in<'a>(values: &'a [u32; ROWS], knowns: &'a [u32; ROWS]) -> Shown
+#[tactic(auto, unfolding(crate::specs::View::shown_in))]
+fn shown_in<'a>(values: &'a [u32; ROWS], knowns: &'a [u32; ROWS]) -> Option<u32>
     ensures { result ≡ shown_in values.now knowns.now }
 {
     if not_indexed(values) {
-        return Shown::All(0x03000000);
+        Some(0x03000000)
+    } else if is_unplaced(knowns) {
+        Some(0x05000000)
+    } else {
+        None
     }
-    if is_unplaced(knowns) {
-        return Shown::All(0x05000000);
-    }
-    Shown::Each
 }
 
+#[tactic(auto, unfolding(chip::specs::View::mask_of))]
 fn mask_of(values: &[u32; ROWS]) -> u8
     ensures { result ≡ mask_of values.now }
 {
@@ -67,6 +61,7 @@ fn mask_of(values: &[u32; ROWS]) -> u8
 }
 
 // The view of a panel that a bank gives.
+#[tactic(auto, unfolding(crate::specs::View::view_in))]
 pub fn view_of<'a>(
     width: u32,
     height: u32,
@@ -75,26 +70,21 @@ pub fn view_of<'a>(
 ) -> View
     ensures { result ≡ view_in width height values.now knowns.now }
 {
-    let shown = shown_in(values, knowns);
-    let mask = mask_of(values);
     View {
-        shown,
+        shown: shown_in(values, knowns),
         base: values[SCREEN_BASE],
         stride: values[SCREEN_STRIDE],
-        mask,
+        mask: mask_of(values),
         width,
         height,
     }
 }
 
 // The word past memory's end: rule 3's where each dot has its own.
-fn past_of(shown: Shown) -> u32
-    ensures { result ≡ shown_word shown 0x02000000 }
+fn past_of(shown: Option<u32>) -> u32
+    ensures { result ≡ unwrap_or shown 0x02000000 }
 {
-    match shown {
-        Shown::All(w) => w,
-        Shown::Each => 0x02000000,
-    }
+    shown.unwrap_or(0x02000000)
 }
 
 // What of a view the redraws read beside its table.
@@ -107,18 +97,28 @@ pub(crate) struct Layout {
     pub(crate) height: usize,
 }
 
+impl Layout {
+    // Where row y starts: the sum in units, converted once.
+    pub(crate) fn row(self, y: usize) -> Bytes
+        requires { (self.base.0 < 0x100000) × (self.stride.0 < 0x100000) × (y ≤ 1024) }
+        ensures { result.0 ≡ row_byte self.base.0 self.stride.0 y }
+    {
+        in_bytes(self.base.plus(self.stride.times(y as u32)))
+    }
+}
+
 fn units_of(w: u32) -> Units
     ensures { result ≡ units_in w }
 {
     Units(w % 0x100000)
 }
 
+#[tactic(auto, unfolding(crate::specs::Layout::layout_of))]
 pub(crate) fn layout_of(v: View) -> Layout
     ensures { result ≡ layout_of v }
 {
-    let shown = v.shown;
     Layout {
-        past: past_of(shown),
+        past: past_of(v.shown),
         base: units_of(v.base),
         stride: units_of(v.stride),
         width: v.width as usize,
@@ -127,16 +127,15 @@ pub(crate) fn layout_of(v: View) -> Layout
 }
 
 // Rules 4 and 5: the word of a palette entry's dots is the entry's own, where a colour was stored.
+#[tactic(auto, using(crate::proofs::ViewLaws::entry_coloured, crate::proofs::ViewLaws::entry_unstored))]
 pub fn entry_word<'a>(palette: &'a [u32; 256], e: u8) -> u32
     ensures { result ≡ colour_word (entry_of palette.now e) }
 {
-    let w = palette[e as usize];
-    if w / 0x1000000 == 1 {
-        return w;
-    }
-    0x04000000
+    let w = palette[usize::from(e)];
+    if w / 0x1000000 == 1 { w } else { 0x04000000 }
 }
 
+#[tactic(auto, unfolding(bits::specs::Word::inside))]
 pub(crate) fn masked(b: u8, mask: u8) -> u8
     ensures { result ≡ inside b mask }
 {
@@ -144,14 +143,12 @@ pub(crate) fn masked(b: u8, mask: u8) -> u8
 }
 
 // The word of a byte's dots.
+#[tactic(auto, unfolding(crate::specs::View::byte_word))]
 pub(crate) fn byte_word<'a>(v: View, palette: &'a [u32; 256], b: u8) -> u32
     ensures { result ≡ byte_word v palette.now b }
 {
-    let shown = v.shown;
-    match shown {
-        Shown::All(w) => w,
-        Shown::Each => entry_word(palette, masked(b, v.mask)),
-    }
+    v.shown
+        .unwrap_or_else(|| entry_word(palette, masked(b, v.mask)))
 }
 
 // The words of the 256 bytes, with one word in every place where every dot has it.
@@ -159,10 +156,7 @@ pub(crate) fn fill_table<'a>(v: View, palette: &'a [u32; 256], t: &mut [u32; 256
     requires { length t.old ≡ 256 }
     ensures { TableFrom v palette.now 256 t.new }
 {
-    let mut b = 0;
-    while b < 256 {
-        let w = byte_word(v, palette, b as u8);
-        t[b] = w;
-        b += 1;
+    for (b, w) in t.iter_mut().enumerate() {
+        *w = byte_word(v, palette, b as u8);
     }
 }

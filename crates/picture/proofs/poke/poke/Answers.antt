@@ -5,6 +5,7 @@ use native.Mathlib.Omega.{arith}
 use Rattle.picture.proofs.FitLaws.{fit_size, laid_old, as_placed}
 use Rattle.picture.proofs.PokeLaws.{poked_out, poked_unfit, poked_same, poked}
 use Rattle.picture.proofs.poke.poke.Goals as goal
+use Rattle.picture.proofs.poke.poke.Goals.{then-a-b-via-then-a-b, then-a-b-via-else-a-b+then-not-both_fit}
 
 pub returns-then-memory-k : goal.returns-then-memory-k
 returns-then-memory-k c = rw (sym c.index-k.ensures) (poked_out _ _ _ _ _ _ c.if-memory-k.true)
@@ -13,10 +14,11 @@ pub bounds-memory-k : goal.bounds-memory-k
 bounds-memory-k c = c.if-memory-k.false
 
 pub returns-then-a-b : goal.returns-then-a-b
-returns-then-a-b c = rw (sym c.index-k.ensures) (poked_same _ _ _ _ _ _ _ _ c.if-memory-k.false c.byte_word-a.ensures c.byte_word-b.ensures c.if-a-b.true)
-
-pub returns-then-not-both_fit : goal.returns-then-not-both_fit
-returns-then-not-both_fit c = rw (sym c.index-k.ensures) (poked_unfit _ _ _ _ _ _ (sym c.both_fit.ensures ∙ c.if-not-both_fit.true))
+returns-then-a-b c =
+    elim c.then-a-b.branch [
+      | then-a-b-via-then-a-b w ↦ rw (sym c.index-k.ensures) (poked_same _ _ _ _ _ _ _ _ c.if-memory-k.false c.byte_word-a.ensures c.byte_word-b.ensures w.if-a-b.true)
+      | then-a-b-via-else-a-b+then-not-both_fit w ↦ rw (sym c.index-k.ensures) (poked_unfit _ _ _ _ _ _ (sym w.both_fit.ensures ∙ w.if-not-both_fit.true))
+    ]
 
 pub touch-requires : goal.touch-requires
 touch-requires c = laid_old _ _ _ (sym c.both_fit.ensures ∙ c.if-not-both_fit.false) _ c.layout_of.ensures

@@ -1,20 +1,17 @@
--- A palette word with its flag turned over is at most 01000000h exactly where refusal 1 passes it, and what the code finds at an entry.
+-- A palette word with its flag turned over is at most 01000000h exactly where refusal 1 passes it, and so is the larger of two exactly where both are.
 -- By the word's top byte. Assumes nothing.
 use Prim.Native.Nat.{ℕ, ◌+◌, ◌-◌, ◌*◌, ◌/◌, ◌%◌, ◌^◌}
 use mathlib.Core.Bool.{◌&&◌}
-use mathlib.Core.List.{List}
 use mathlib.Core.Path.{◌≡◌, refl, ap, ap₂, ◌∙◌}
 use native.Mathlib.Nat.{mod-lt}
 use native.Mathlib.Omega.{arith}
-use borrow.Author.Tests.{eqb-true, eqb-false, eq-eqb, ne_eqb, leb-true, leb-false, le-leb, lt-leb}
+use borrow.Author.Tests.{eqb-true, eqb-false, leb-true, leb-false, le-leb, lt-leb}
 use lib.Bits.{bit_xor, differ, xor_step, xor_zero_r, xor_block}
 use lib.Dec.{eqb, leb}
-use lib.ListN.{get_or}
-use Rattle.std.specs.Prelude.{Some, None, max}
-use Rattle.bits.specs.Options.{option_of}
+use Rattle.std.specs.Prelude.{max}
 use Rattle.bits.proofs.Cases.{by_test}
 use Rattle.bits.proofs.Digits.{by_digit}
-use Rattle.chip.specs.Palette.{colour_in, is_stored, entry_of, word_ok}
+use Rattle.chip.specs.Palette.{is_stored, word_ok}
 
 -- ---- refusal 1
 
@@ -50,13 +47,3 @@ max_both a b k =
     (λ u. let y = leb-true b k u in simp (t, u) (le-leb (max a b) k (omega (arith, x, y))))
     (λ u. let y = leb-false b k u in simp (t, u) (lt-leb (max a b) k (omega (arith, y)))))
     (λ t. let x = leb-false a k t in simp t (lt-leb (max a b) k (omega (arith, x))))
-
--- ---- an entry by its top byte
-
-pub entry_never : (p : List ℕ) (e : ℕ) → (get_or p e 0 / 0x1000000 ≡ 1 → ⊥) → None ≡ option_of (entry_of p e)
-unfolding entry_of is_stored
-entry_never p e n = simp (ne_eqb (get_or p e 0 / 0x1000000) 1 n)
-
-pub entry_stored : (p : List ℕ) (e : ℕ) → get_or p e 0 / 0x1000000 ≡ 1 → Some (colour_in (get_or p e 0)) ≡ option_of (entry_of p e)
-unfolding entry_of is_stored
-entry_stored p e z = simp (eq-eqb (get_or p e 0 / 0x1000000) 1 z)

@@ -1,3 +1,2 @@
 pub mod Arranged
-pub mod LaneLaws
 pub mod OneOutcome

@@ -10,13 +10,15 @@ use borrow.Author.Tests.{eq-eqb, ne_eqb}
 use lib.Dec.{eqb}
 use lib.ListN.{get_or, set, length, length-set}
 use Rattle.bits.specs.Choose.{pick}
+use Rattle.bits.proofs.Bools.{and_false}
 use Rattle.chip.specs.declared.State.{State}
 use Rattle.chip.specs.declared.Access.{Access}
 use Rattle.chip.specs.declared.Answer.{Answer}
 use Rattle.chip.specs.declared.Reply.{Reply}
 use Rattle.chip.specs.declared.Wrote.{Wrote}
 use Rattle.chip.specs.Access.{reads, writes}
-use Rattle.chip.specs.Parts.{replied, wrote}
+use Rattle.chip.specs.declared.Dac.{Dac}
+use Rattle.chip.specs.Parts.{replied, wrote, made, state_of, dac_of}
 use Rattle.chip.specs.Sound.{is_state}
 use Rattle.chip.specs.Step.{Outcome, Gives, surely_of}
 use Rattle.chip.specs.Trace.{World}
@@ -86,15 +88,19 @@ ran_more x l n o k s m p a s' m' p' a' h em ep r y =
 
 -- ---- the whole
 
+-- the test of a state, by its parts
+pub tested : (t : Bool) (w h f o : ℕ) (vs ks ps ds : List ℕ) (x : Dac) → t ≡ is_state (made w h f o vs ks ps x) → x ≡ dac_of ds → t ≡ is_state (state_of w h f o vs ks ps ds)
+tested t w h f o vs ks ps ds x e q = e ∙ ap (λ (y : Dac). is_state (made w h f o vs ks ps y)) q
+
 module _ (s : State) (m p l o : List ℕ) (t : Bool) (et : t ≡ is_state s) where
-  pub runs_none : t ≡ false → Runs s m p l o 1 s m p o
+  pub runs_none : (r : ℕ) → r ≡ 1 → t ≡ false → Runs s m p l o r s m p o
   unfolding run_status
-  runs_none e = record { status = sym (simp (sym et ∙ e)); world = refl; answers = refl }
+  runs_none r q e = subst (λ (n : ℕ). Runs s m p l o n s m p o) (sym q) (record { status = sym (simp (sym et ∙ e)); world = refl; answers = refl })
 
   module _ (e : t ≡ true) where
-    pub runs_wrong : list_fits (length l) (length o) ≡ false → Runs s m p l o 2 s m p o
+    pub runs_wrong : (r : ℕ) → r ≡ 2 → list_fits (length l) (length o) ≡ false → Runs s m p l o r s m p o
     unfolding run_status
-    runs_wrong g = record { status = sym (simp (sym et ∙ e, g)); world = refl; answers = refl }
+    runs_wrong r q g = subst (λ (n : ℕ). Runs s m p l o n s m p o) (sym q) (record { status = sym (simp (sym et ∙ e, g)); world = refl; answers = refl })
 
     pub runs_done : (s' : State) (m' p' o' : List ℕ) (k : ℕ) → list_fits (length l) (length o) ≡ true → Ran (world_of s m p) l (length l / 5) o k s' m' p' o' → length l / 5 ≤ k
         → Runs s m p l o 0 s' m' p' o'
@@ -107,21 +113,21 @@ module _ (s : State) (m p l o : List ℕ) (t : Bool) (et : t ≡ is_state s) whe
           answers = r.answers ∙ ap (answers_to (world_of s m p) l (length l / 5) o) z;
         }
 
-pub list_wrong : (n o : ℕ) → (n ≡ 5 * (n / 5) → ⊥) → list_fits n o ≡ false
+pub list_wrong : (n o : ℕ) → (n % 5 ≡ 0 → ⊥) → list_fits n o ≡ false
 unfolding list_fits
-list_wrong n o h = simp (ne_eqb n (5 * (n / 5)) h)
+list_wrong n o h = simp (ne_eqb n (5 * (n / 5)) (λ e. h (omega (arith, e))))
 
-pub room_wrong : (n o : ℕ) → n ≡ 5 * (n / 5) → (o / 4 ≡ n / 5 → ⊥) → list_fits n o ≡ false
+pub room_wrong : (n o : ℕ) → (o / 4 ≡ n / 5 → ⊥) → list_fits n o ≡ false
 unfolding list_fits
-room_wrong n o e h = simp (eq-eqb n (5 * (n / 5)) e, ne_eqb (o / 4) (n / 5) h)
+room_wrong n o h = simp (ne_eqb (o / 4) (n / 5) h, and_false)
 
-pub room_odd : (n o : ℕ) → n ≡ 5 * (n / 5) → o / 4 ≡ n / 5 → (o % 4 ≡ 0 → ⊥) → list_fits n o ≡ false
+pub room_odd : (n o : ℕ) → (o % 4 ≡ 0 → ⊥) → list_fits n o ≡ false
 unfolding list_fits
-room_odd n o e f h = simp (eq-eqb n (5 * (n / 5)) e, eq-eqb (o / 4) (n / 5) f, ne_eqb (o % 4) 0 h)
+room_odd n o h = simp (ne_eqb (o % 4) 0 h, and_false)
 
-pub list_right : (n o : ℕ) → n ≡ 5 * (n / 5) → o / 4 ≡ n / 5 → o % 4 ≡ 0 → list_fits n o ≡ true
+pub list_right : (n o : ℕ) → n % 5 ≡ 0 → o / 4 ≡ n / 5 → o % 4 ≡ 0 → list_fits n o ≡ true
 unfolding list_fits
-list_right n o e f h = simp (eq-eqb n (5 * (n / 5)) e, eq-eqb (o / 4) (n / 5) f, eq-eqb (o % 4) 0 h)
+list_right n o e f h = simp (eq-eqb n (5 * (n / 5)) (omega (arith, e)), eq-eqb (o / 4) (n / 5) f, eq-eqb (o % 4) 0 h)
 
 -- ---- any two outcomes of one run are equal
 

@@ -1,33 +1,21 @@
 // For bench/run, and no part of the library: a run over a list of accesses after one test of the state, and a read and a write by value.
 #![tactic(auto)]
 
-ghost use Rattle.std.specs.Prelude.{◌≡◌, ◌+◌, ◌*◌, ◌<◌, ◌^◌, get_or, set};
+ghost use Rattle.std.specs.Prelude.{◌≡◌, ◌+◌, ◌*◌, ◌<◌, ◌^◌, get_or};
 ghost use Rattle.chip.specs.Access.{reads, writes};
 ghost use Rattle.chip.specs.Parts.{state_of};
 ghost use Rattle.chip.specs.Step.{step_of, Gives};
 ghost use Rattle.bench_list.specs.Run.{put_answer, Ones, Runs};
 
-use chip::{Answer, DAC_BYTES, ROWS, State};
+use bits::put_at;
+use chip::{Answer, DAC_BYTES, ROWS, Refusal, State};
 use model::sure::{sure_read, sure_write};
 
 // The word at k, and 0 past the end.
 fn word_at(list: &[u32], k: usize) -> u32
     ensures { result ≡ get_or list.now k 0 }
 {
-    if list.len() <= k {
-        return 0;
-    }
-    list[k]
-}
-
-// Word k takes v; past the end nothing does.
-fn put_at(out: &mut [u32], k: usize, v: u32)
-    ensures { out.new ≡ set out.old k v }
-{
-    if k < out.len() {
-        out[k] = v;
-        return;
-    }
+    list.get(k).copied().unwrap_or(0)
 }
 
 // The answer of access k of n, in its four places.
@@ -73,25 +61,25 @@ fn one(
             memory, picture,
         );
         put_answer(answers, n, k, r.status, r.word, r.known, 0);
-        return;
+    } else {
+        let w = sure_write(
+            width,
+            height,
+            fitted,
+            once,
+            values,
+            knowns,
+            palette,
+            dac,
+            target,
+            offset,
+            enables,
+            word_at(list, at + 4),
+            memory,
+            picture,
+        );
+        put_answer(answers, n, k, w.status, 0, 0, w.changed);
     }
-    let w = sure_write(
-        width,
-        height,
-        fitted,
-        once,
-        values,
-        knowns,
-        palette,
-        dac,
-        target,
-        offset,
-        enables,
-        word_at(list, at + 4),
-        memory,
-        picture,
-    );
-    put_answer(answers, n, k, w.status, 0, 0, w.changed);
 }
 
 // Five words an access: target, offset, 0 for a read and any other number for a write, enables, word. The answers lie apart: all statuses, all words, all known
@@ -117,25 +105,17 @@ pub extern "C" fn bench_run(
     let o = *once;
     let d = palette::dac::dac_of(dac);
     if !model::sound::is_state(width, height, fitted, o, values, knowns, palette, d) {
-        return 1;
+        return u32::from(Refusal::NotState);
     }
     let n = list.len() / 5;
-    if list.len() != 5 * n {
-        return 2;
+    if list.len() % 5 != 0 || answers.len() / 4 != n || answers.len() % 4 != 0 {
+        return u32::from(Refusal::Length);
     }
-    if answers.len() / 4 != n {
-        return 2;
-    }
-    if answers.len() % 4 != 0 {
-        return 2;
-    }
-    let mut k = 0;
-    while k < n {
+    for k in 0..n {
         one(
             width, height, fitted, once, values, knowns, palette, dac, list, k, n, answers, memory,
             picture,
         );
-        k += 1;
     }
     0
 }

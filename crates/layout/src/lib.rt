@@ -53,22 +53,19 @@ pub extern "C" fn made_state<'a>(
         red: staged_red,
         green: staged_green,
     };
-    let v = *values;
-    let n = *knowns;
-    let p = *palette;
     State {
         width,
         height,
         fitted,
         once,
-        values: v,
-        knowns: n,
-        palette: p,
+        values: *values,
+        knowns: *knowns,
+        palette: *palette,
         dac,
     }
 }
 
-// ---- written by C, taken apart here
+// ---- written by C, taken apart here. An array in a struct goes by a variable: so the borrow checker asks.
 
 #[unsafe(no_mangle)]
 pub extern "C" fn parts_of_reply(p: Reply, out: &mut [u32; 3])
@@ -119,12 +116,13 @@ pub extern "C" fn palette_of_state(s: State, out: &mut [u32; 256])
 pub extern "C" fn dac_of_state(s: State, out: &mut [u8; 6])
     ensures { out.new ≡ s.dac.address ∷ s.dac.known ∷ s.dac.component ∷ s.dac.staged ∷ s.dac.red ∷ s.dac.green ∷ [] }
 {
-    *out = [
-        s.dac.address,
-        s.dac.known,
-        s.dac.component,
-        s.dac.staged,
-        s.dac.red,
-        s.dac.green,
-    ];
+    let Dac {
+        address,
+        known,
+        component,
+        staged,
+        red,
+        green,
+    } = s.dac;
+    *out = [address, known, component, staged, red, green];
 }

@@ -1,21 +1,17 @@
--- A palette word with its flag turned over is at most 01000000h exactly where refusal 1 passes it, and what the code finds at an entry.
+-- A palette word with its flag turned over is at most 01000000h exactly where refusal 1 passes it, and so is the larger of two exactly where both are.
 -- By the word's top byte. Assumes nothing.
-use Prim.Native.Nat.{ℕ, ◌+◌, ◌-◌, ◌*◌, ◌/◌, ◌%◌, ◌^◌, ◌<◌, ◌≤◌}
+use Prim.Native.Nat.{ℕ, ◌+◌, ◌-◌, ◌*◌, ◌/◌, ◌%◌, ◌^◌}
 use mathlib.Core.Bool.{◌&&◌}
-use mathlib.Core.List.{List}
-use mathlib.Core.Path.{◌≡◌, refl, sym, ap, ap₂, ◌∙◌}
+use mathlib.Core.Path.{◌≡◌, refl, ap, ap₂, ◌∙◌}
 use native.Mathlib.Nat.{mod-lt}
 use native.Mathlib.Omega.{arith}
-use borrow.Author.Tests.{eqb-true, eqb-false, eq-eqb, ne_eqb, leb-true, le-leb, lt-leb}
+use borrow.Author.Tests.{eqb-true, eqb-false, leb-true, leb-false, le-leb, lt-leb}
 use lib.Bits.{bit_xor, differ, xor_step, xor_zero_r, xor_block}
 use lib.Dec.{eqb, leb}
-use lib.ListN.{get_or}
+use Rattle.std.specs.Prelude.{max}
 use Rattle.bits.proofs.Cases.{by_test}
-use Rattle.bits.proofs.Bools.{and_false, and_both}
 use Rattle.bits.proofs.Digits.{by_digit}
-use Rattle.chip.specs.Palette.{colour_in, is_stored, entry_of, word_ok}
-use Rattle.palette.specs.declared.entries.Found.TheVariants.{Never, Stored}
-use Rattle.palette.specs.Entry.{found_of}
+use Rattle.chip.specs.Palette.{is_stored, word_ok}
 
 -- ---- refusal 1
 
@@ -42,25 +38,12 @@ turned_ok w =
     (λ u. let y = eqb-true w 0 u in simp (t, u) (le-leb (bit_xor w 0x01000000) 0x01000000 (omega (arith, z, y))))
     (λ u. let m : w ≡ 0 → ⊥ = eqb-false w 0 u in simp (t, u) (lt-leb (bit_xor w 0x01000000) 0x01000000 (omega (arith, z, n, m)))))
 
--- the larger of two
-pub larger_second : (a b : ℕ) → a < b → (k : ℕ) → leb b k ≡ (leb a k && leb b k)
-larger_second a b h k =
-    by_test (leb b k)
-    (λ t. let y = leb-true b k t in t ∙ sym (and_both (leb a k) (leb b k) (le-leb a k (omega (arith, h, y))) t))
-    (λ t. simp t (sym (and_false (leb a k))))
-
-pub larger_first : (a b : ℕ) → b ≤ a → (k : ℕ) → leb a k ≡ (leb a k && leb b k)
-larger_first a b h k =
+-- the larger of two is at most k exactly where both are
+pub max_both : (a b k : ℕ) → leb (max a b) k ≡ (leb a k && leb b k)
+max_both a b k =
     by_test (leb a k)
-    (λ t. let y = leb-true a k t in t ∙ sym (and_both (leb a k) (leb b k) t (le-leb b k (omega (arith, h, y)))))
-    (λ t. simp t)
-
--- ---- an entry by its top byte
-
-pub entry_never : (p : List ℕ) (e : ℕ) → (get_or p e 0 / 0x1000000 ≡ 1 → ⊥) → Never ≡ found_of (entry_of p e)
-unfolding entry_of is_stored
-entry_never p e n = simp (ne_eqb (get_or p e 0 / 0x1000000) 1 n)
-
-pub entry_stored : (p : List ℕ) (e : ℕ) → get_or p e 0 / 0x1000000 ≡ 1 → Stored (colour_in (get_or p e 0)) ≡ found_of (entry_of p e)
-unfolding entry_of is_stored
-entry_stored p e z = simp (eq-eqb (get_or p e 0 / 0x1000000) 1 z)
+    (λ t. let x = leb-true a k t in
+    by_test (leb b k)
+    (λ u. let y = leb-true b k u in simp (t, u) (le-leb (max a b) k (omega (arith, x, y))))
+    (λ u. let y = leb-false b k u in simp (t, u) (lt-leb (max a b) k (omega (arith, y)))))
+    (λ t. let x = leb-false a k t in simp t (lt-leb (max a b) k (omega (arith, x))))

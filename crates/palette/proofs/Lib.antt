@@ -1,4 +1,3 @@
 pub mod DacLaws
 pub mod EntryLaws
-pub mod AccessLaws
 pub mod OneOutcome

@@ -1,55 +1,26 @@
 // The palette's entries, and how a component is kept and shown.
-ghost use Rattle.std.specs.Prelude.{◌≡◌, ℕ, ◌&&◌, leb};
-ghost use Rattle.chip.specs.Palette.{empty_palette, coloured_word, colour_in, entry_of, store_entry, word_ok, kept_as, shown_as, part_of, palette_ok};
+#![tactic(auto, unfolding(chip::specs::Palette::empty_palette, chip::specs::Palette::store_entry, chip::specs::Palette::kept_as, chip::specs::Palette::shown_as, chip::specs::Palette::part_of, chip::specs::Palette::entry_of, chip::specs::Palette::is_stored))]
+
+ghost use Rattle.std.specs.Prelude.{◌≡◌, leb};
+ghost use Rattle.bits.specs.Options.{option_of};
+ghost use Rattle.chip.specs.Palette.{empty_palette, entry_of, store_entry, word_ok, kept_as, shown_as, part_of, palette_ok};
 ghost use Rattle.chip.specs.Port.{seen_part};
-ghost use Rattle.palette.specs.Entry.{found_of};
 
 use chip::{Colour, Dac, Seen};
 
-// What a palette entry holds: nothing, where it was never stored, or a colour.
-#[derive(Clone, Copy)]
-pub enum Found {
-    Never,
-    Stored(Colour),
-}
-
-fn colour_in(w: u32) -> Colour
-    ensures { result ≡ colour_in w }
+// What a palette entry holds: a colour, or nothing where it was never stored.
+pub fn entry_of(p: &[u32; 256], e: u8) -> Option<Colour>
+    ensures { result ≡ option_of (entry_of p.now e) }
 {
-    Colour {
-        red: (w / 0x10000 % 256) as u8,
-        green: (w / 0x100 % 256) as u8,
-        blue: (w % 256) as u8,
-    }
-}
-
-pub fn entry_of<'a>(p: &'a [u32; 256], e: u8) -> Found
-    ensures { result ≡ found_of (entry_of p.now e) }
-{
-    let w = p[e as usize];
-    if w / 0x1000000 == 1 {
-        return Found::Stored(colour_in(w));
-    }
-    Found::Never
-}
-
-fn coloured_word(c: Colour) -> u32
-    ensures { result ≡ coloured_word c }
-{
-    0x01000000 + wide_of(c.red) * 0x10000 + wide_of(c.green) * 0x100 + wide_of(c.blue)
+    let w = p[usize::from(e)];
+    (w / 0x1000000 == 1).then(|| Colour::of_word(w))
 }
 
 // Entry e takes a colour, in place.
 pub fn store_entry(p: &mut [u32; 256], e: u8, c: Colour)
     ensures { p.new ≡ store_entry p.old e c }
 {
-    p[e as usize] = coloured_word(c);
-}
-
-fn wide_of(b: u8) -> u32
-    ensures { result ≡ b }
-{
-    b as u32
+    p[usize::from(e)] = u32::from(c);
 }
 
 // A byte as it is stored: with 8 bits as it is, with 6 bits its lowest six, and the upper two of them once more below (C-13): full
@@ -58,47 +29,34 @@ pub fn kept_as(wide: bool, v: u8) -> u8
     ensures { result ≡ kept_as wide v }
 {
     if wide {
-        return v;
+        v
+    } else {
+        let w = v % 64;
+        4 * w + w / 16
     }
-    let w = v % 64;
-    4 * w + w / 16
 }
 
 // A stored byte as it is read: with 8 bits as it is, with 6 bits divided by 4.
 pub fn shown_as(wide: bool, v: u8) -> u8
     ensures { result ≡ shown_as wide v }
 {
-    if wide {
-        return v;
-    }
-    v / 4
+    if wide { v } else { v / 4 }
 }
 
 // Component 0 is red, 1 green, 2 blue.
 pub fn part_of(c: u8, x: Colour) -> u8
     ensures { result ≡ part_of c x }
 {
-    if c == 0 {
-        return x.red;
+    match c {
+        0 => x.red,
+        1 => x.green,
+        _ => x.blue,
     }
-    if c == 1 {
-        return x.green;
-    }
-    x.blue
-}
-
-// The larger of two: it is at most k exactly where both are.
-fn larger(a: u32, b: u32) -> u32
-    ensures { (k : ℕ) → leb result k ≡ (leb a k && leb b k) }
-{
-    if a < b {
-        return b;
-    }
-    a
 }
 
 // An entry's word with the flag turned over: a stored colour loses it, and 0, which was never stored, becomes 01000000h. Every word that refusal 1
 // refuses becomes larger than that.
+#[tactic(auto, using(crate::proofs::EntryLaws::turned_ok))]
 fn turned(w: u32) -> u32
     ensures { leb result 0x01000000 ≡ word_ok w }
 {
@@ -106,32 +64,27 @@ fn turned(w: u32) -> u32
 }
 
 // Refusal 1's test of the palette: the largest of the turned words decides, so that a turn of the loop is an XOR and a maximum.
-pub fn palette_sound<'a>(p: &'a [u32; 256]) -> bool
+#[tactic(auto, using(crate::proofs::EntryLaws::max_both), unfolding(chip::specs::Palette::entry_ok, chip::specs::Palette::palette_ok))]
+pub fn palette_sound(p: &[u32; 256]) -> bool
     ensures { result ≡ palette_ok p.now }
 {
-    let mut most: u32 = 0;
-    let mut i = 0;
-    while i < 256 {
-        most = larger(most, turned(p[i]));
-        i += 1;
+    let mut most = 0;
+    for w in p {
+        most = turned(*w).max(most);
     }
     most <= 0x01000000
 }
 
 // What a read or a look of palette data sees: a component as the width shows it, and eight unknown bits of an entry never stored.
-pub fn seen_palette<'a>(wide: bool, d: Dac, p: &'a [u32; 256]) -> Seen
+pub fn seen_palette(wide: bool, d: Dac, p: &[u32; 256]) -> Seen
     ensures { result ≡ seen_part wide d.component (entry_of p.now d.address) }
 {
-    let f = entry_of(p, d.address);
-    match f {
-        Found::Never => Seen { value: 0, known: 0 },
-        Found::Stored(x) => {
-            let shown = shown_as(wide, part_of(d.component, x));
-            Seen {
-                value: wide_of(shown),
-                known: 0xFF,
-            }
-        }
+    match entry_of(p, d.address) {
+        Some(x) => Seen {
+            value: u32::from(shown_as(wide, part_of(d.component, x))),
+            known: 0xFF,
+        },
+        None => Seen { value: 0, known: 0 },
     }
 }
 
@@ -139,5 +92,5 @@ pub fn seen_palette<'a>(wide: bool, d: Dac, p: &'a [u32; 256]) -> Seen
 pub fn reset_palette(p: &mut [u32; 256])
     ensures { p.new ≡ empty_palette }
 {
-    *p = [0u32; 256];
+    *p = [0; 256];
 }

@@ -4,5 +4,4 @@ pub mod QuietLaws
 pub mod TestLaws
 pub mod WindowLaws
 pub mod OpenLaws
-pub mod ValueLaws
 pub mod OneOutcome

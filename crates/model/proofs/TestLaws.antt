@@ -1,4 +1,4 @@
--- Tests in the order in which the code makes them, and a definition by cases read at one case.
+-- Tests in the order in which the code makes them.
 -- Each by cases on the test. Assumes nothing.
 use Prim.Native.Nat.{ℕ, ◌*◌, ◌%◌}
 use mathlib.Core.Bool.{Bool, true, false, ◌&&◌}
@@ -22,10 +22,6 @@ use Rattle.chip.specs.Sound.{panel_ok, memory_ok, component_ok, address_ok, once
 use Rattle.chip.specs.Palette.{palette_ok}
 use Rattle.model.specs.Parts.{sizes_ok}
 use Rattle.model.specs.Stages.{place_lines, lent_ok, form_ok, form_lines, later_from, later_at}
-
--- a definition over places, at the place that was found
-pub at_place : {A : Type 0} (f : Place → A) (p q : Place) (r : A) → p ≡ q → r ≡ f q → r ≡ f p
-at_place f p q r e h = h ∙ sym (ap f e)
 
 -- ---- the lines of a table
 

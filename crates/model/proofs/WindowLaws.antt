@@ -1,11 +1,12 @@
 -- Four lanes stored one after the other are the write through the aperture, and their redraws are one redraw.
 -- No dot's byte is in two lanes, so no dot changes twice, and the counts add up. Assumes nothing.
-use Prim.Native.Nat.{ℕ, ◌+◌, ◌<◌, ◌≤◌}
+use Prim.Native.Nat.{ℕ, zero, suc, ◌+◌, ◌<◌, ◌≤◌}
 use mathlib.Core.Bool.{Bool, true, false}
 use mathlib.Core.List.{List, []}
 use mathlib.Core.Logic.{◌⊎◌, inl, inr}
 use mathlib.Core.Path.{◌≡◌, refl, sym, ap, ap₂, ◌∙◌, subst}
 use native.Mathlib.Nat.{le_refl, mul_comm}
+use native.Mathlib.Numerals.{add-one}
 use native.Mathlib.Omega.{arith}
 use borrow.Author.Tests.{eqb-true, eqb-false, eq-eqb}
 use lib.Dec.{eqb, leb}
@@ -181,29 +182,34 @@ unfolding puts_of
 four_puts control a m =
     put_step control a 0 m _ ∙ put_step control a 1 _ _ ∙ put_step control a 2 _ _ ∙ put_step control a 3 _ []
 
--- the lanes of one write, put together
-module _ {v : View} {pal : List ℕ} {control : ℕ} {a : Access} {m p : List ℕ} {r0 : ℕ} {m1 p1 : List ℕ} {r1 : ℕ} {m2 p2 : List ℕ} {r2 : ℕ} {m3 p3 : List ℕ} {r3 : ℕ} {m4 p4 : List ℕ}
-    (l0 : LaneIn v pal control a 0 m p r0 m1 p1) (l1 : LaneIn v pal control a 1 m1 p1 r1 m2 p2) (l2 : LaneIn v pal control a 2 m2 p2 r2 m3 p3) (l3 : LaneIn v pal control a 3 m3 p3 r3 m4 p4) where
-  together : Sofar v pal control a 4 m p (r0 + r1 + r2 + r3) m4 p4
-  together =
-      let k1 : Sofar v pal control a 1 m p r0 m1 p1 =
-      subst (λ (x : ℕ). Sofar v pal control a 1 m p x m1 p1) (let e : 0 + r0 ≡ r0 = omega arith in e)
-      (sofar_more v pal control a 0 m p 0 m p r0 m1 p1 (omega arith) (sofar_none v pal control a m p) l0) in
-      let k2 = sofar_more v pal control a 1 m p r0 m1 p1 r1 m2 p2 (omega arith) k1 l1 in
-      let k3 = sofar_more v pal control a 2 m p (r0 + r1) m2 p2 r2 m3 p3 (omega arith) k2 l2 in
-      sofar_more v pal control a 3 m p (r0 + r1 + r2) m3 p3 r3 m4 p4 (omega arith) k3 l3
+-- memory after the lanes below i
+abbrev pub lanes_to : ℕ → Access → ℕ → List ℕ → List ℕ
+lanes_to control a zero m = m
+lanes_to control a (suc i) m = lane_in control a i (lanes_to control a i m)
 
-  pub window_small : r0 + r1 + r2 + r3 ≤ 0x100000
-  window_small =
-      by_test (fits v v (length p))
-      (λ f. omega (arith, redraws_few _ _ _ p (r0 + r1 + r2 + r3) p4 together.drawn, fit_size v v (length p) f, mul_comm v.width v.height, panel_product v.width v.height (fit_panel v v (length p) f)))
-      (λ f. let z : r0 + r1 + r2 + r3 ≡ 0 = together.drawn.count ∙ simp f in omega arith)
+-- the lanes below i of one write
+pub record Lanes (v : View) (pal : List ℕ) (control : ℕ) (a : Access) (m p : List ℕ) (i r : ℕ) (m' p' : List ℕ) : Type 0 where
+  pub memory : m' ≡ lanes_to control a i m
+  pub sofar : Sofar v pal control a i m p r m' p'
 
-  pub window_in : WindowIn v pal control a m p (r0 + r1 + r2 + r3) m4 p4
-  window_in =
-      record {
-        memory =
-            l3.memory ∙ ap (lane_in control a 3) (l2.memory ∙ ap (lane_in control a 2) (l1.memory ∙ ap (lane_in control a 1) l0.memory))
-            ∙ sym (four_puts control a m);
-        drawn = together.drawn;
-      }
+pub no_lanes : (v : View) (pal : List ℕ) (control : ℕ) (a : Access) (m p : List ℕ) → Lanes v pal control a m p 0 0 m p
+no_lanes v pal control a m p = record { memory = refl; sofar = sofar_none v pal control a m p }
+
+pub one_lane : {v : View} {pal : List ℕ} {control : ℕ} {a : Access} {m p : List ℕ} {i r : ℕ} {m' p' : List ℕ} {q : ℕ} {m'' p'' : List ℕ} → i < 4
+    → Lanes v pal control a m p i r m' p' → LaneIn v pal control a i m' p' q m'' p'' → Lanes v pal control a m p (i + 1) (r + q) m'' p''
+one_lane {v} {pal} {control} {a} {m} {p} {i} {r} {m'} {p'} {q} {m''} {p''} h k l =
+    record {
+      memory = l.memory ∙ ap (lane_in control a i) k.memory ∙ rw add-one refl;
+      sofar = sofar_more v pal control a i m p r m' p' q m'' p'' h k.sofar l;
+    }
+
+-- no more words change than the panel has
+pub lanes_small : {v : View} {pal : List ℕ} {control : ℕ} {a : Access} {m p : List ℕ} {i r : ℕ} {m' p' : List ℕ} → Lanes v pal control a m p i r m' p' → r ≤ 0x100000
+lanes_small {v} {p = p} {r = r} {p' = p'} k =
+    by_test (fits v v (length p))
+    (λ f. omega (arith, redraws_few _ _ _ p r p' k.sofar.drawn, fit_size v v (length p) f, mul_comm v.width v.height, panel_product v.width v.height (fit_panel v v (length p) f)))
+    (λ f. let z : r ≡ 0 = k.sofar.drawn.count ∙ simp f in omega arith)
+
+pub four_lanes : {v : View} {pal : List ℕ} {control : ℕ} {a : Access} {m p : List ℕ} {r : ℕ} {m' p' : List ℕ}
+    → Lanes v pal control a m p 4 r m' p' → WindowIn v pal control a m p r m' p'
+four_lanes {control = control} {a = a} {m = m} k = record { memory = k.memory ∙ sym (four_puts control a m); drawn = k.sofar.drawn }

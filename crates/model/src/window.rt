@@ -37,11 +37,11 @@ fn write_lanes<'a>(
 ) -> u32
     ensures { WindowIn v palette.now control a memory.old picture.old result memory.new picture.new }
 {
-    let n0 = write_lane(v, palette, control, a, 0, memory, picture);
-    let n1 = write_lane(v, palette, control, a, 1, memory, picture);
-    let n2 = write_lane(v, palette, control, a, 2, memory, picture);
-    let n3 = write_lane(v, palette, control, a, 3, memory, picture);
-    n0 + n1 + n2 + n3
+    let mut changed = 0;
+    for j in 0..4 {
+        changed += write_lane(v, palette, control, a, j, memory, picture);
+    }
+    changed
 }
 
 // Through the aperture whose control register is in a row.

@@ -5,7 +5,8 @@ ghost use Rattle.chip.specs.Bank.{indirect_entry};
 ghost use Rattle.registers.specs.Packed.{packed_at};
 ghost use Rattle.registers.specs.Found.{indirect_row};
 
-// Writable in bits 0-7, reset in 8-15, the row in 16-23, exists in bit 24, reads in bit 25.
+// Writable in bits 0-7, reset in 8-15, the row in 16-23, exists in bit 24, reads in bit 25. Packed, and not an array of Option<struct>: the kit builds such a
+// constant anew at each look-up, element by element, and the proof would go through all 256.
 const INDIRECT: [u32; 256] = [
     0, // 00h
     0, 0, 0, 0, 0, 0x337007F, // 06h RDCursorControl

@@ -68,7 +68,21 @@ const HEADER_OFFSETS: [u32; HEADER_ROWS] = [
     0xFC, // CFGIndirectData
 ];
 
-// The row at an offset of region 0, and at an offset of the header, counted from the first of its part.
+// The row at an offset of region 0; REGION_ROWS where there is none.
+pub fn region_at(o: u32) -> usize
+    ensures { result ≡ region_at o }
+{
+    row_with(&REGION_OFFSETS, o).unwrap_or(REGION_ROWS)
+}
+
+// The row at an offset of the header; INDIRECT_FIRST, past the header's rows, where there is none.
+pub fn header_at(o: u32) -> usize
+    ensures { result ≡ header_at o }
+{
+    HEADER_FIRST + row_with(&HEADER_OFFSETS, o).unwrap_or(HEADER_ROWS)
+}
+
+// The row at an offset, if there is one, counted from the first of its part.
 pub(crate) fn region_row(o: u32) -> Option<usize>
     ensures { result ≡ region_row o }
 {
@@ -79,18 +93,4 @@ pub(crate) fn header_row(o: u32) -> Option<usize>
     ensures { result ≡ header_row o }
 {
     row_with(&HEADER_OFFSETS, o)
-}
-
-// The row at an offset of region 0; REGION_ROWS where there is none.
-pub fn region_at(o: u32) -> usize
-    ensures { result ≡ region_at o }
-{
-    region_row(o).unwrap_or(REGION_ROWS)
-}
-
-// The row at an offset of the header; INDIRECT_FIRST, past the header's rows, where there is none.
-pub fn header_at(o: u32) -> usize
-    ensures { result ≡ header_at o }
-{
-    HEADER_FIRST + header_row(o).unwrap_or(HEADER_ROWS)
 }

@@ -3,14 +3,8 @@ use mathlib.Core.Logic.{inl, inr}
 use Rattle.model.proofs.PlaceLaws.{at_put, address_put, window_put_lem, blank_put, nowhere_put}
 use Rattle.model.proofs.written.write_at.Goals as goal
 
-pub returns-in-Register : goal.returns-in-Register
-returns-in-Register c = λ f. at_put _ _ _ _ _ _ _ _ _ _ c.in-Register.is (c.write_register.ensures f _)
-
 pub returns-in-Address : goal.returns-in-Address
 returns-in-Address c = λ f. at_put _ _ _ _ _ _ _ _ _ _ c.in-Address.is (address_put _ _ f _ _ _ _ _ _ _ _ _ c.write_address.ensures)
-
-pub returns-in-PaletteData : goal.returns-in-PaletteData
-returns-in-PaletteData c = λ f. at_put _ _ _ _ _ _ _ _ _ _ c.in-PaletteData.is (c.write_data.ensures f _)
 
 pub returns-in-Window : goal.returns-in-Window
 returns-in-Window c = λ f. at_put _ _ _ _ _ _ _ _ _ _ c.in-Window.is (window_put_lem _ _ f _ _ _ _ _ _ _ _ _ _ _ _ c.write_window.ensures)

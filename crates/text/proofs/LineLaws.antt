@@ -65,7 +65,7 @@ module _ (k : Kind) (f : List ℕ) (fs : List (List ℕ)) where
   unfolding target_next
   target_none e = ap (option_and_then (λ n. offset_next k n fs)) (sym e)
 
-  pub target_some : (t : ℕ) → Some t ≡ target_in f → target_next k (f ∷ fs) ≡ offset_next k t fs
+  target_some : (t : ℕ) → Some t ≡ target_in f → target_next k (f ∷ fs) ≡ offset_next k t fs
   unfolding target_next
   target_some t e = ap (option_and_then (λ n. offset_next k n fs)) (sym e)
 
@@ -90,6 +90,18 @@ module _ (k : Kind) (f : List ℕ) (fs : List (List ℕ)) where
 
       enables_some : (e : ℕ) → Some e ≡ number_of 16 f → enables_next k t o (f ∷ fs) ≡ word_next k t o e fs
       enables_some n e = enables_goes ∙ ap (option_and_then (λ n. word_next k t o n fs)) (sym e)
+
+-- ---- a line as far as it has been read
+
+-- its kind
+pub line_named : (l : List ℕ) (looks : Bool) → length l ≤ 64 → (f : List ℕ) (fs : List (List ℕ)) → fields_of l ≡ f ∷ fs
+    → (r : Option Access) → kind_first looks (f ∷ fs) ≡ r → line_of looks l ≡ r
+line_named l looks s f fs p r e = line_short l looks s ∙ ap (kind_first looks) p ∙ e
+
+-- and its target
+pub line_aimed : (r : Option Access) (k : Kind) (m f : List ℕ) (fs : List (List ℕ)) → r ≡ target_next k (fields_of m) → fields_of m ≡ f ∷ fs
+    → (t : ℕ) → Some t ≡ target_in f → r ≡ offset_next k t fs
+line_aimed r k m f fs q p t e = q ∙ ap (target_next k) p ∙ target_some k f fs t e
 
 -- ---- the word
 

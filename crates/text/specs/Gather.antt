@@ -14,8 +14,8 @@ abbrev pub part_of : List ℕ → ℕ → List ℕ
 part_of chunk from = up_to 10 (drop from chunk)
 
 -- it goes behind the `held` bytes of the line that are there. What the buffer can't hold is left out: one of 65 bytes, one more than a line may have,
--- sees a line that is too long by its length (proofs/Gathered.antt). `next` is where in the chunk to go on
--- behind the newline, where there is one.
+-- sees a line that is too long by its length (proofs/Gathered.antt). `next` is where in the chunk to go on behind the newline: None where there is none
+-- from `from` on.
 pub record Gathers (chunk : List ℕ) (from : ℕ) (buffer : List ℕ) (held : ℕ) (r : Taken) (buffer' : List ℕ) : Type 0 where
   pub bytes : buffer' ≡ sets buffer held (part_of chunk from)
   pub held' : r.held ≡ held + min (length (part_of chunk from)) (length buffer - held)

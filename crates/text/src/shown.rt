@@ -22,6 +22,7 @@ fn digit_at(word: u32, known: u32, unit: u32) -> u8
 pub fn word(shown: u32, known: u32) -> [u8; 8]
     ensures { result ≡ word_shown shown known }
 {
+    // Written out, as `word_shown` is: a loop would add an index and its shift.
     [
         digit_at(shown, known, 0x10000000),
         digit_at(shown, known, 0x1000000),
@@ -39,9 +40,8 @@ pub fn word(shown: u32, known: u32) -> [u8; 8]
 pub fn colour(dot: u32) -> Colour
     ensures { result ≡ colour_shown dot }
 {
-    let [why, red, green, blue] = dot.to_be_bytes();
-    let (red, green, blue) = match why {
-        1 => (red, green, blue),
+    let (red, green, blue) = match dot >> 24 {
+        1 => return Colour::of_word(dot),
         2 => (0xFF, 0, 0xFF),
         3 => (0xFF, 0x80, 0),
         4 => (0x80, 0xFF, 0),

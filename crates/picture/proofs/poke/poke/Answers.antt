@@ -10,9 +10,6 @@ use Rattle.picture.proofs.poke.poke.Goals.{then-a-b-via-then-a-b, then-a-b-via-e
 pub returns-then-memory-k : goal.returns-then-memory-k
 returns-then-memory-k c = rw (sym c.index-k.ensures) (poked_out _ _ _ _ _ _ c.if-memory-k.true)
 
-pub bounds-memory-k : goal.bounds-memory-k
-bounds-memory-k c = c.if-memory-k.false
-
 pub returns-then-a-b : goal.returns-then-a-b
 returns-then-a-b c =
     elim c.then-a-b.branch [

@@ -24,6 +24,7 @@ pub(crate) fn both_fit(v: View, n: View, size: usize) -> bool
     panel_fits(v.width, v.height) && n.width == v.width && size == (v.width * v.height) as usize
 }
 
+// View, palette and memory stay apart, as the public functions take them.
 fn redraw_fit(v: View, n: View, palette: &[u32; 256], memory: &[u8], picture: &mut [u32]) -> u32
     requires { fits v n (length picture.old) ≡ true }
     ensures { Part (dot_in v palette.now memory.now) (dot_in n palette.now memory.now) 0 (v.height * v.width) picture.old result picture.new }

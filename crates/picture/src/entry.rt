@@ -22,8 +22,7 @@ pub(crate) struct Mark {
 impl Mark {
     // A byte's words: at another entry's 0, and not the other word, so that the compiler takes all tests of the words out of the loop.
     fn words(self, byte: u8) -> (u32, u32)
-        ensures old { result.0 ≡ pick (eqb (inside byte self.mask) self.entry) self.old 0 }
-        ensures new { result.1 ≡ pick (eqb (inside byte self.mask) self.entry) self.new 0 }
+        ensures { (result.0 ≡ pick (eqb (inside byte self.mask) self.entry) self.old 0) × (result.1 ≡ pick (eqb (inside byte self.mask) self.entry) self.new 0) }
     {
         if masked(byte, self.mask) == self.entry {
             (self.old, self.new)

@@ -22,6 +22,14 @@ pub(crate) struct Row {
     pub(crate) width: usize,
 }
 
+// Memory, and the words of its bytes in the old layout and in the new one.
+#[derive(Clone, Copy)]
+pub(crate) struct Tables<'a> {
+    pub(crate) old: &'a [u32; 256],
+    pub(crate) new: &'a [u32; 256],
+    pub(crate) memory: &'a [u8],
+}
+
 fn choose(a: u32, b: u32, p: u32) -> u32
     ensures { result ≡ chosen a b p }
 {
@@ -47,7 +55,7 @@ pub(crate) fn put(picture: &mut [u32], k: usize, a: u32, b: u32) -> u32
 
 // The word of a dot whose byte is at a place: the table's, or the word past memory's end.
 #[tactic(auto, unfolding(crate::specs::Draw::look_of))]
-pub(crate) fn look<'a>(past: u32, at: Bytes, table: &'a [u32; 256], memory: &'a [u8]) -> u32
+pub(crate) fn look(past: u32, at: Bytes, table: &[u32; 256], memory: &[u8]) -> u32
     ensures { result ≡ look_of past at.0 table.now memory.now }
 {
     match memory.get(at.index()) {

@@ -5,7 +5,9 @@ ghost use Rattle.picture.specs.View.{dot_in, same_place, same_view, fits};
 ghost use Rattle.picture.specs.Entry.{entry_marks};
 ghost use Rattle.picture.specs.Draw.{Redraws, Part};
 
-use crate::entry::entry_rows;
+use crate::dot::Tables;
+use crate::entry::{Mark, entry_rows};
+use crate::rows::draw_rows;
 use crate::view::{View, fill_table, layout_of};
 
 #[tactic(auto, unfolding(chip::specs::Sound::panel_ok))]
@@ -22,13 +24,8 @@ pub(crate) fn both_fit(v: View, n: View, size: usize) -> bool
     panel_fits(v.width, v.height) && n.width == v.width && size == (v.width * v.height) as usize
 }
 
-fn redraw_fit<'a>(
-    v: View,
-    n: View,
-    palette: &'a [u32; 256],
-    memory: &'a [u8],
-    picture: &mut [u32],
-) -> u32
+// View, palette and memory stay apart, as the public functions take them.
+fn redraw_fit(v: View, n: View, palette: &[u32; 256], memory: &[u8], picture: &mut [u32]) -> u32
     requires { fits v n (length picture.old) ≡ true }
     ensures { Part (dot_in v palette.now memory.now) (dot_in n palette.now memory.now) 0 (v.height * v.width) picture.old result picture.new }
 {
@@ -36,7 +33,12 @@ fn redraw_fit<'a>(
     let mut t1 = [0u32; 256];
     fill_table(v, palette, &mut t0);
     fill_table(n, palette, &mut t1);
-    crate::rows::draw_rows(layout_of(v), &t0, layout_of(n), &t1, memory, picture)
+    let t = Tables {
+        old: &t0,
+        new: &t1,
+        memory,
+    };
+    draw_rows(layout_of(v), layout_of(n), t, picture)
 }
 
 // The same base, stride, mask and width.
@@ -60,13 +62,7 @@ fn same_view(v: View, n: View) -> bool
 }
 
 // The dots whose word differs between the two views take the new one; the number of words that changed.
-pub fn redraw<'a>(
-    v: View,
-    n: View,
-    palette: &'a [u32; 256],
-    memory: &'a [u8],
-    picture: &mut [u32],
-) -> u32
+pub fn redraw(v: View, n: View, palette: &[u32; 256], memory: &[u8], picture: &mut [u32]) -> u32
     ensures { Redraws (fits v n (length picture.old)) (dot_in v palette.now memory.now) (dot_in n palette.now memory.now) picture.old result picture.new }
 {
     if same_view(v, n) || !both_fit(v, n, picture.len()) {
@@ -76,18 +72,17 @@ pub fn redraw<'a>(
 }
 
 // The dots that show palette entry e, as its word goes from a to b; the number of words that changed.
-pub fn redraw_entry<'a>(
-    v: View,
-    e: u8,
-    a: u32,
-    b: u32,
-    memory: &'a [u8],
-    picture: &mut [u32],
-) -> u32
+pub fn redraw_entry(v: View, e: u8, a: u32, b: u32, memory: &[u8], picture: &mut [u32]) -> u32
     ensures { Redraws (fits v v (length picture.old)) (entry_marks v e memory.now a) (entry_marks v e memory.now b) picture.old result picture.new }
 {
     if v.shown.is_some() || !both_fit(v, v, picture.len()) {
         return 0;
     }
-    entry_rows(layout_of(v), v.mask, e, a, b, memory, picture)
+    let mark = Mark {
+        mask: v.mask,
+        entry: e,
+        old: a,
+        new: b,
+    };
+    entry_rows(layout_of(v), mark, memory, picture)
 }

@@ -3,14 +3,16 @@ ghost use Rattle.std.specs.Prelude.{◌≡◌, ◌+◌, ◌^◌, ◌<◌, ◌≤
 ghost use Rattle.picture.specs.Draw.{RowDrawn, Inside, Tells};
 ghost use Rattle.picture.specs.Row.{old_dots, new_dots, always, Reach, Room, From, cut_to, rest_of};
 
-use crate::dot::{Row, Start, look, put};
+use crate::dot::{Row, Start, Tables, look, put};
 use chip::Bytes;
 
 // How many dots of a row lie inside memory.
 pub(crate) fn inside(row: Bytes, width: usize, size: usize) -> usize
     ensures { Inside row.0 width size result }
 {
-    size.saturating_sub(row.index()).min(width)
+    // saturating_sub and min alone are worked out again at each loop over the row: small panels then take 4 % more instructions
+    let at = row.index();
+    if size <= at { 0 } else { width.min(size - at) }
 }
 
 // The dots from first on, as many as width says: words gives the word before and after of each, by its column.
@@ -35,23 +37,17 @@ pub(crate) fn draw<F: Fn(usize) -> (u32, u32)>(
 }
 
 // Dot by dot, each asking where memory ends.
-fn draw_row<'a>(
-    row: Row,
-    t0: &'a [u32; 256],
-    t1: &'a [u32; 256],
-    memory: &'a [u8],
-    picture: &mut [u32],
-) -> u32
+fn draw_row(row: Row, t: Tables, picture: &mut [u32]) -> u32
     requires { Reach (2 ^ 41) row (length picture.old) }
-    ensures { RowDrawn (old_dots row t0.now memory.now) (new_dots row t1.now memory.now) row.first row.width picture.old result picture.new }
+    ensures { RowDrawn (old_dots row t.entry.old.now t.entry.memory.now) (new_dots row t.entry.new.now t.entry.memory.now) row.first row.width picture.old result picture.new }
 {
     draw(
         row.first,
         row.width,
         picture,
         |x| (
-            look(row.old.past, row.old.at.along(x), t0, memory),
-            look(row.new.past, row.new.at.along(x), t1, memory),
+            look(row.old.past, row.old.at.along(x), t.old, t.memory),
+            look(row.new.past, row.new.at.along(x), t.new, t.memory),
         ),
     )
 }
@@ -96,40 +92,28 @@ fn past_row(row: Row, picture: &mut [u32]) -> u32
 }
 
 // The rest of a row, dot by dot as far as it lies in memory in one layout; past memory's end in both no dot is looked up, and mostly none changes.
-fn rest_row<'a>(
-    row: Row,
-    t0: &'a [u32; 256],
-    t1: &'a [u32; 256],
-    memory: &'a [u8],
-    picture: &mut [u32],
-) -> u32
+fn rest_row(row: Row, t: Tables, picture: &mut [u32]) -> u32
     requires { Reach (2 ^ 41) row (length picture.old) }
-    ensures { RowDrawn (old_dots row t0.now memory.now) (new_dots row t1.now memory.now) row.first row.width picture.old result picture.new }
+    ensures { RowDrawn (old_dots row t.entry.old.now t.entry.memory.now) (new_dots row t.entry.new.now t.entry.memory.now) row.first row.width picture.old result picture.new }
 {
-    let one = inside(row.old.at, row.width, memory.len());
-    let two = inside(row.new.at, row.width, memory.len());
+    let one = inside(row.old.at, row.width, t.memory.len());
+    let two = inside(row.new.at, row.width, t.memory.len());
     let d = one.max(two);
-    let n = draw_row(cut_to(row, d), t0, t1, memory, picture);
+    let n = draw_row(cut_to(row, d), t, picture);
     n + past_row(rest_of(row, d), picture)
 }
 
 // By the tables: as far as the row lies inside memory in both layouts no dot asks where memory ends.
-pub(crate) fn both_row<'a>(
-    row: Row,
-    t0: &'a [u32; 256],
-    t1: &'a [u32; 256],
-    memory: &'a [u8],
-    picture: &mut [u32],
-) -> u32
+pub(crate) fn both_row(row: Row, t: Tables, picture: &mut [u32]) -> u32
     requires { Reach (2 ^ 40) row (length picture.old) }
-    ensures { RowDrawn (old_dots row t0.now memory.now) (new_dots row t1.now memory.now) row.first row.width picture.old result picture.new }
+    ensures { RowDrawn (old_dots row t.entry.old.now t.entry.memory.now) (new_dots row t.entry.new.now t.entry.memory.now) row.first row.width picture.old result picture.new }
 {
-    let one = inside(row.old.at, row.width, memory.len());
-    let dots = inside(row.new.at, one, memory.len());
+    let one = inside(row.old.at, row.width, t.memory.len());
+    let dots = inside(row.new.at, one, t.memory.len());
     let n = draw(row.first, dots, picture, |x| {
-        let v = memory[row.old.at.index() + x];
-        let w = memory[row.new.at.index() + x];
-        (t0[usize::from(v)], t1[usize::from(w)])
+        let v = t.memory[row.old.at.index() + x];
+        let w = t.memory[row.new.at.index() + x];
+        (t.old[usize::from(v)], t.new[usize::from(w)])
     });
-    n + rest_row(rest_of(row, dots), t0, t1, memory, picture)
+    n + rest_row(rest_of(row, dots), t, picture)
 }

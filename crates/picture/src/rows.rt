@@ -3,20 +3,13 @@ ghost use Rattle.std.specs.Prelude.{◌*◌, length};
 ghost use Rattle.picture.specs.Draw.{Part};
 ghost use Rattle.picture.specs.Layout.{laid_dots, Laid, LaidIn};
 
-use crate::dot::{Row, Start};
+use crate::dot::{Row, Start, Tables};
 use crate::view::Layout;
 
 // Every dot that can change, row after row. The panel is the old layout's.
-pub(crate) fn draw_rows<'a>(
-    old: Layout,
-    t0: &'a [u32; 256],
-    new: Layout,
-    t1: &'a [u32; 256],
-    memory: &'a [u8],
-    picture: &mut [u32],
-) -> u32
+pub(crate) fn draw_rows(old: Layout, new: Layout, t: Tables, picture: &mut [u32]) -> u32
     requires { (Laid old (length picture.old)) × (LaidIn old new (length picture.old)) }
-    ensures { Part (laid_dots old old.width t0.now memory.now) (laid_dots new old.width t1.now memory.now) 0 (old.height * old.width) picture.old result picture.new }
+    ensures { Part (laid_dots old old.width t.entry.old.now t.entry.memory.now) (laid_dots new old.width t.entry.new.now t.entry.memory.now) 0 (old.height * old.width) picture.old result picture.new }
 {
     let mut n: u32 = 0;
     for y in 0..old.height {
@@ -32,7 +25,7 @@ pub(crate) fn draw_rows<'a>(
             first: y * old.width,
             width: old.width,
         };
-        n += crate::row::both_row(row, t0, t1, memory, picture);
+        n += crate::row::both_row(row, t, picture);
     }
     n
 }

@@ -41,7 +41,7 @@ fn is_unplaced(knowns: &[u32; ROWS]) -> bool
 }
 
 #[tactic(auto, unfolding(crate::specs::View::shown_in))]
-fn shown_in<'a>(values: &'a [u32; ROWS], knowns: &'a [u32; ROWS]) -> Option<u32>
+fn shown_in(values: &[u32; ROWS], knowns: &[u32; ROWS]) -> Option<u32>
     ensures { result ≡ shown_in values.now knowns.now }
 {
     if not_indexed(values) {
@@ -62,12 +62,7 @@ fn mask_of(values: &[u32; ROWS]) -> u8
 
 // The view of a panel that a bank gives.
 #[tactic(auto, unfolding(crate::specs::View::view_in))]
-pub fn view_of<'a>(
-    width: u32,
-    height: u32,
-    values: &'a [u32; ROWS],
-    knowns: &'a [u32; ROWS],
-) -> View
+pub fn view_of(width: u32, height: u32, values: &[u32; ROWS], knowns: &[u32; ROWS]) -> View
     ensures { result ≡ view_in width height values.now knowns.now }
 {
     View {
@@ -128,7 +123,7 @@ pub(crate) fn layout_of(v: View) -> Layout
 
 // Rules 4 and 5: the word of a palette entry's dots is the entry's own, where a colour was stored.
 #[tactic(auto, using(crate::proofs::ViewLaws::entry_coloured, crate::proofs::ViewLaws::entry_unstored))]
-pub fn entry_word<'a>(palette: &'a [u32; 256], e: u8) -> u32
+pub fn entry_word(palette: &[u32; 256], e: u8) -> u32
     ensures { result ≡ colour_word (entry_of palette.now e) }
 {
     let w = palette[usize::from(e)];
@@ -144,7 +139,7 @@ pub(crate) fn masked(b: u8, mask: u8) -> u8
 
 // The word of a byte's dots.
 #[tactic(auto, unfolding(crate::specs::View::byte_word))]
-pub(crate) fn byte_word<'a>(v: View, palette: &'a [u32; 256], b: u8) -> u32
+pub(crate) fn byte_word(v: View, palette: &[u32; 256], b: u8) -> u32
     ensures { result ≡ byte_word v palette.now b }
 {
     v.shown
@@ -152,7 +147,7 @@ pub(crate) fn byte_word<'a>(v: View, palette: &'a [u32; 256], b: u8) -> u32
 }
 
 // The words of the 256 bytes, with one word in every place where every dot has it.
-pub(crate) fn fill_table<'a>(v: View, palette: &'a [u32; 256], t: &mut [u32; 256])
+pub(crate) fn fill_table(v: View, palette: &[u32; 256], t: &mut [u32; 256])
     requires { length t.old ≡ 256 }
     ensures { TableFrom v palette.now 256 t.new }
 {

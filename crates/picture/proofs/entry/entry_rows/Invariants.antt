@@ -3,4 +3,4 @@ use Rattle.picture.proofs.RowLaws.{Rows}
 use Rattle.picture.proofs.entry.entry_rows.Given as goal
 
 abbrev pub invariant-loop-y : goal.invariant-loop-y
-invariant-loop-y l = Rows (laid_marks l.l l.mask l.e l.memory l.a) (laid_marks l.l l.mask l.e l.memory l.b) l.l.width l.initial.picture l.n l.y l.picture
+invariant-loop-y l = Rows (laid_marks l.l l.mark.mask l.mark.entry l.memory l.mark.old) (laid_marks l.l l.mark.mask l.mark.entry l.memory l.mark.new) l.l.width l.initial.picture l.n l.y l.picture

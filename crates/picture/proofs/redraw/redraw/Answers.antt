@@ -15,8 +15,5 @@ returns-then-same_view c =
       | then-same_view-via-else-same_view+then-not-both_fit w ↦ no_redraw _ _ _ _ (sym w.both_fit.ensures ∙ w.if-not-both_fit.true)
     ]
 
-pub redraw_fit-requires : goal.redraw_fit-requires
-redraw_fit-requires c = sym c.both_fit.ensures ∙ c.if-not-both_fit.false
-
 pub returns : goal.returns
 returns c = let f = sym c.both_fit.ensures ∙ c.if-not-both_fit.false in part_redraws _ _ _ _ _ _ _ f (omega (arith, fit_size _ _ _ f)) c.redraw_fit.ensures

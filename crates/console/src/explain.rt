@@ -1,7 +1,7 @@
 // One readable line for an access and its answer.
+use crate::machine::Told;
 use crate::names::say_row;
 use crate::say::Output;
-use crate::session::Told;
 use chip::{APERTURE_ONE, Access, Dac, INDIRECT_FIRST, Kind, Place, Refusal};
 use registers::place::place_of;
 use text::shown::word;

@@ -6,6 +6,7 @@ pub mod complain; // complain.rt: messages on standard error
 pub mod program; // program.rt: what every program begins and ends with
 pub mod clock; // clock.rt: processor time
 pub mod names; // names.rt: the registers' names
+pub mod machine; // machine.rt: a machine, and what it answers
 mod explain; // explain.rt: one readable line for an access
 mod line; // line.rt: a line of standard input, gathered from chunks
 mod session; // session.rt: the loop over standard input

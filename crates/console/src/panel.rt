@@ -7,18 +7,16 @@ use crate::session::Form;
 use text::Size;
 use text::panel::{decimal, size};
 
-// The size and the bytes that the arguments ask for; Err where one is of another form.
+const NO_SIZE: &[u8] =
+    b"the panel's size is of another form: expected is WIDTHxHEIGHT in decimal digits, as 640x480\n";
+
+const NO_BYTES: &[u8] =
+    b"the memory is of another form: expected is a number of bytes in decimal digits, as 65536\n";
+
+// The size and the bytes that the arguments ask for; Err says which is of another form.
 fn asked(rt: HostRuntime) -> Result<(Size, u32), &'static [u8]> {
-    let Some(size) = size(argument(rt, 1, &mut [0u8; ROOM])) else {
-        return Err(
-            b"the panel's size is of another form: expected is WIDTHxHEIGHT in decimal digits, as 640x480\n",
-        );
-    };
-    let Some(bytes) = decimal(argument(rt, 2, &mut [0u8; ROOM])) else {
-        return Err(
-            b"the memory is of another form: expected is a number of bytes in decimal digits, as 65536\n",
-        );
-    };
+    let size = size(argument(rt, 1, &mut [0u8; ROOM])).ok_or(NO_SIZE)?;
+    let bytes = decimal(argument(rt, 2, &mut [0u8; ROOM])).ok_or(NO_BYTES)?;
     Ok((size, bytes))
 }
 

@@ -2,6 +2,7 @@
 ghost use Rattle.std.specs.Prelude.{◌≤◌};
 
 use crate::complain::{complain, complain_why};
+use crate::machine::Machine;
 use crate::say::Output;
 use crate::session::{Form, Session};
 use crate::target::Target;
@@ -79,15 +80,13 @@ impl Panel {
             return;
         };
         out.print(format_args!("PERMEDIA2 {}x{} {}\n", self.width, self.height, self.bytes));
-        let session = Session {
-            out,
-            form,
+        let mut machine = Machine {
             state: opened.state,
             memory,
             picture,
         };
-        session.run();
-        if let Err(error) = to.write(out, self, picture) {
+        Session { out, form }.run(&mut machine);
+        if let Err(error) = to.write(out, self, machine.picture) {
             complain_why(out.rt, b"the picture could not be written whole", error);
         }
     }

@@ -2,6 +2,7 @@
 use crate::complain::complain_why;
 use std::fmt::Display;
 use std::fs::OpenOptions;
+use std::io::ErrorKind;
 use std::{fs, io};
 
 // Standard output, from when the program begins until a write fails or the program ends; nothing is written to it then.
@@ -61,22 +62,16 @@ fn file(rt: HostRuntime) -> io::Result<fs::File> {
     if fs::metadata(&rt, name)?.is_file() {
         OpenOptions::new().append(true).open(&rt, name)
     } else {
-        Err(io::Error::from(io::ErrorKind::Unsupported))
+        Err(io::Error::from(ErrorKind::Unsupported))
     }
 }
 
 // Hands on what a file took to where it is kept: some file systems say only here that they lost it. What is no such file keeps nothing.
 pub(crate) fn kept(file: &fs::File) -> io::Result<()> {
-    match file.sync_all() {
-        Err(error)
-            if !matches!(
-                error.kind(),
-                io::ErrorKind::InvalidInput
-                    | io::ErrorKind::Unsupported
-                    | io::ErrorKind::ReadOnlyFilesystem
-            ) => { Err(error) }
-        _ => Ok(()),
-    }
+    file.sync_all().or_else(|error| match error.kind() {
+        ErrorKind::InvalidInput | ErrorKind::Unsupported | ErrorKind::ReadOnlyFilesystem => Ok(()),
+        _ => Err(error),
+    })
 }
 
 // The same of standard output; where it can't be opened anew, nothing is known.
@@ -91,21 +86,22 @@ pub(crate) fn lost(rt: HostRuntime, error: io::Error) {
     complain_why(rt, b"standard output can't be written", error);
 }
 
+// The same as functions, which docs/CONTRACTS.md names: bytes as they are ..
 pub fn say(out: &mut Output, text: &[u8]) {
     out.say(text);
 }
 
-// In decimal, without leading zeros.
+// .. a number in decimal, without leading zeros ..
 pub fn say_number(out: &mut Output, n: u32) {
     out.print(n);
 }
 
-// In lower-case hexadecimal, with as many digits as it needs.
+// .. in lower-case hexadecimal, with as many digits as it needs ..
 pub fn say_hex(out: &mut Output, n: u32) {
     out.print(format_args!("{n:x}"));
 }
 
-// The same with eight digits.
+// .. and with eight.
 pub fn say_word(out: &mut Output, n: u32) {
     out.print(format_args!("{n:08x}"));
 }

@@ -1,6 +1,7 @@
 // Offsets and enables at an aperture, and six-bit red.
-use crate::cases::{Machine, apart, in_turn};
+use crate::cases::{apart, ask_all, in_turn, open_shown};
 use chip::Access;
+use console::machine::Machine;
 use console::say::Output;
 
 // The last word that is fitted is served, the next is refused as 5, and an offset inside a word as 4.
@@ -39,10 +40,9 @@ pub(crate) fn enables(out: &mut Output) {
     );
 }
 
-fn say_red(m: &mut Machine) {
-    let red = m.state.palette[7] / 0x10000 % 256;
-    m.out
-        .print(format_args!("stored red of entry 7: {red}\n"));
+fn say_red(out: &mut Output, machine: &Machine) {
+    let red = machine.state.palette[7] / 0x10000 % 256;
+    out.print(format_args!("stored red of entry 7: {red}\n"));
 }
 
 // Red 63 is written in six bits and read back as 63; in eight bits the stored byte is read as it is, 255.
@@ -50,21 +50,29 @@ pub(crate) fn six_bit_red(out: &mut Output) {
     out.print("six-bit red\n");
     let mut memory = [0u8; 16];
     let mut picture = [0u32; 4];
-    let mut machine = Machine::open(out, 4, 1, &mut memory, &mut picture);
+    let mut machine = open_shown(out, 4, 1, &mut memory, &mut picture);
     // Entry 7: red 63, green 0 and blue 0 are written.
-    machine.ask_all(&[
-        Access::write(0, 0x4000, 1, 7),
-        Access::write(0, 0x4008, 1, 63),
-        Access::write(0, 0x4008, 1, 0),
-        Access::write(0, 0x4008, 1, 0),
-    ]);
-    say_red(&mut machine);
+    ask_all(
+        out,
+        &mut machine,
+        &[
+            Access::write(0, 0x4000, 1, 7),
+            Access::write(0, 0x4008, 1, 63),
+            Access::write(0, 0x4008, 1, 0),
+            Access::write(0, 0x4008, 1, 0),
+        ],
+    );
+    say_red(out, &machine);
     let read_back = [Access::write(0, 0x4018, 1, 7), Access::read(0, 0x4008, 1)];
-    machine.ask_all(&read_back);
+    ask_all(out, &mut machine, &read_back);
     // Eight bits: RDMiscControl, index 1Eh, bit 1.
-    machine.ask_all(&[
-        Access::write(0, 0x4000, 1, 0x1E),
-        Access::write(0, 0x4050, 1, 2),
-    ]);
-    machine.ask_all(&read_back);
+    ask_all(
+        out,
+        &mut machine,
+        &[
+            Access::write(0, 0x4000, 1, 0x1E),
+            Access::write(0, 0x4050, 1, 2),
+        ],
+    );
+    ask_all(out, &mut machine, &read_back);
 }

@@ -1,16 +1,17 @@
 // Each refusal, 1 to 9.
 ghost use Rattle.std.specs.Prelude.{◌<◌, ◌^◌};
 
-use crate::cases::{Machine, apart, in_turn, open_on};
+use crate::cases::{apart, ask, in_turn, open_on, open_shown};
 use chip::Access;
+use console::machine::Machine;
 use console::say::Output;
 
 // 1: the state that a refused opening gives is no state.
 fn not_a_state(out: &mut Output) {
     let mut memory = [0u8; 16];
     let mut picture = [0u32; 4];
-    let mut machine = Machine::open(out, 0, 1, &mut memory, &mut picture);
-    machine.ask(Access::read(0, 0x1080, 15));
+    let mut machine = open_shown(out, 0, 1, &mut memory, &mut picture);
+    ask(out, &mut machine, Access::read(0, 0x1080, 15));
 }
 
 // 2 at an access: memory or picture is not as long as at the opening.
@@ -22,13 +23,13 @@ fn other_lengths<const BYTES: usize, const WORDS: usize>(out: &mut Output)
     let mut picture = [0u32; 4];
     let mut other_memory = [0u8; BYTES];
     let mut other_picture = [0u32; WORDS];
-    let opened = Machine::open(out, 4, 1, &mut memory, &mut picture);
+    let opened = open_shown(out, 4, 1, &mut memory, &mut picture);
     let mut machine = Machine {
         memory: &mut other_memory,
         picture: &mut other_picture,
         ..opened
     };
-    machine.ask(Access::read(0, 0x1080, 15));
+    ask(out, &mut machine, Access::read(0, 0x1080, 15));
 }
 
 // 5: no register, no memory, an unknown address, an index where nothing exists, past the header.
@@ -43,10 +44,7 @@ fn absent(out: &mut Output) {
     );
     in_turn(
         out,
-        &[
-            Access::write(0, 0x4000, 15, 0),
-            Access::read(0, 0x4050, 15),
-        ],
+        &[Access::write(0, 0x4000, 15, 0), Access::read(0, 0x4050, 15)],
     );
     apart(out, &[Access::read(3, 0x100, 15)]);
 }
@@ -68,7 +66,10 @@ fn modes(out: &mut Output) {
     let cases = [
         (Access::write(0, 0x50, 15, 3), Access::read(1, 0, 15)),
         (Access::write(0, 0x50, 15, 8), Access::read(1, 0, 15)),
-        (Access::write(0, 0x58, 15, 0x100), Access::write(2, 0, 15, 1)),
+        (
+            Access::write(0, 0x58, 15, 0x100),
+            Access::write(2, 0, 15, 1),
+        ),
         (Access::write(0, 0x58, 15, 0x200), Access::read(2, 0, 15)),
     ];
     for (mode, access) in cases {

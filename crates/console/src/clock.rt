@@ -1,17 +1,8 @@
 // Processor time.
-use std::io;
 use std::rt::CpuClock;
-use std::time::Duration;
 
-// In microseconds, modulo 2^32; 0 for a clock that fails.
-fn unsigned(t: io::Result<Duration>) -> u32 {
-    match t {
-        Ok(t) => (t.as_micros() % 4294967296) as u32,
-        Err(_) => 0,
-    }
-}
-
-// Processor time in microseconds, modulo 2^32.
+// Processor time in microseconds, modulo 2^32; 0 for a clock that fails.
 pub fn microseconds(rt: HostRuntime) -> u32 {
-    unsigned(rt.process_cpu_time())
+    rt.process_cpu_time()
+        .map_or(0, |t| (t.as_micros() % 0x100000000) as u32)
 }

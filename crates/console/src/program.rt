@@ -1,10 +1,11 @@
 // What every program begins and ends with.
-ghost use Rattle.std.specs.Prelude.{◌≤◌, length};
-
 use crate::complain::complain;
-use crate::say::{Output, lost, shut};
+use crate::say::{Output, lost};
 use std::env::FillError;
 use std::rt::Env;
+
+// The longest argument that a program takes.
+pub(crate) const ROOM: usize = 4096;
 
 fn too_many(rt: HostRuntime, most: usize) -> bool {
     most < usize::MAX && has_argument(rt, most + 1)
@@ -31,37 +32,23 @@ pub fn begin(rt: HostRuntime, most: usize, usage: &[u8]) -> bool {
     takes_output(rt)
 }
 
-// After the last write: some file systems say only here that they lost what they took.
+// After the last write.
 pub fn end(out: &mut Output) {
-    if out.open {
-        if let Err(error) = shut(out) {
-            lost(out.rt, error);
-        }
-    }
+    out.shut();
 }
 
-// Puts argument i at the start of the room and answers its length: 0 where there is none, or where it is longer.
-pub(crate) fn argument(rt: HostRuntime, i: usize, room: &mut [u8]) -> usize
-    ensures { result ≤ length room.new }
-{
-    match rt.arg(i, room) {
-        Ok(n) => n,
-        Err(_) => 0,
-    }
+// Argument i, in the room: empty where there is none, or where it is longer.
+pub(crate) fn argument<'a>(rt: HostRuntime, i: usize, room: &'a mut [u8; ROOM]) -> &'a [u8] {
+    let held = rt.arg(i, room).unwrap_or(0);
+    &room[..held]
 }
 
 // Whether there is an argument i.
 pub fn has_argument(rt: HostRuntime, i: usize) -> bool {
-    let mut room = [0u8; 4096];
-    match rt.arg(i, &mut room) {
-        Err(FillError::NotPresent) => false,
-        _ => true,
-    }
+    !matches!(rt.arg(i, &mut [0u8; ROOM]), Err(FillError::NotPresent))
 }
 
 // Whether argument i is a word.
 pub fn is_argument(rt: HostRuntime, i: usize, word: &[u8]) -> bool {
-    let mut room = [0u8; 4096];
-    let n = argument(rt, i, &mut room);
-    &room[..n] == word
+    argument(rt, i, &mut [0u8; ROOM]) == word
 }

@@ -2,6 +2,7 @@
 use crate::complain::complain_why;
 use std::fmt::Display;
 use std::fs::OpenOptions;
+use std::io::ErrorKind;
 use std::{fs, io};
 
 // Standard output, from when the program begins until a write fails or the program ends; nothing is written to it then.
@@ -19,34 +20,63 @@ impl Output {
     pub fn rt(&self) -> HostRuntime {
         self.rt
     }
+
+    // Bytes as they are.
+    pub fn say(&mut self, text: &[u8]) {
+        if self.open {
+            let done = self.rt.write_all(text);
+            self.settle(done);
+        }
+    }
+
+    // Whatever has a form of its own: a text, a number, format_args!(..).
+    pub fn print<D: Display + Drop>(&mut self, value: D) {
+        if self.open {
+            let done = self.rt.print(value);
+            self.settle(done);
+        }
+    }
+
+    // After each write. Where it failed, that is said and standard output is shut, so that it is said once.
+    fn settle(&mut self, done: io::Result<()>) {
+        if let Err(error) = done {
+            self.open = false;
+            lost(self.rt, error);
+        }
+    }
+
+    // After the last write: some file systems say only here that they lost what they took.
+    pub(crate) fn shut(&mut self) {
+        if self.open {
+            self.open = false;
+            if let Err(error) = handed_on(self.rt) {
+                lost(self.rt, error);
+            }
+        }
+    }
 }
 
 // Where standard output is a file that can be opened by its name.
 fn file(rt: HostRuntime) -> io::Result<fs::File> {
     let name = "/dev/stdout";
     if fs::metadata(&rt, name)?.is_file() {
-        return OpenOptions::new().append(true).open(&rt, name);
+        OpenOptions::new().append(true).open(&rt, name)
+    } else {
+        Err(io::Error::from(ErrorKind::Unsupported))
     }
-    Err(io::Error::from(io::ErrorKind::Unsupported))
 }
 
 // Hands on what a file took to where it is kept: some file systems say only here that they lost it. What is no such file keeps nothing.
 pub(crate) fn kept(file: &fs::File) -> io::Result<()> {
-    match file.sync_all() {
-        Ok(()) => Ok(()),
-        Err(error) => match error.kind() {
-            io::ErrorKind::InvalidInput
-            | io::ErrorKind::Unsupported
-            | io::ErrorKind::ReadOnlyFilesystem => Ok(()),
-            _ => Err(error),
-        },
-    }
+    file.sync_all().or_else(|error| match error.kind() {
+        ErrorKind::InvalidInput | ErrorKind::Unsupported | ErrorKind::ReadOnlyFilesystem => Ok(()),
+        _ => Err(error),
+    })
 }
 
-// Shuts standard output.
-pub(crate) fn shut(out: &mut Output) -> io::Result<()> {
-    out.open = false;
-    match file(out.rt) {
+// The same of standard output; where it can't be opened anew, nothing is known.
+fn handed_on(rt: HostRuntime) -> io::Result<()> {
+    match file(rt) {
         Ok(file) => kept(&file),
         Err(_) => Ok(()),
     }
@@ -56,39 +86,22 @@ pub(crate) fn lost(rt: HostRuntime, error: io::Error) {
     complain_why(rt, b"standard output can't be written", error);
 }
 
-// After each write. Where it failed, that is said and standard output is shut, so that it is said once.
-fn settled(out: &mut Output, done: io::Result<()>) {
-    if let Err(error) = done {
-        out.open = false;
-        lost(out.rt, error);
-    }
-}
-
+// The same as functions, which docs/CONTRACTS.md names: bytes as they are ..
 pub fn say(out: &mut Output, text: &[u8]) {
-    if out.open {
-        let done = out.rt.write_all(text);
-        settled(out, done);
-    }
+    out.say(text);
 }
 
-fn print<D: Display + Drop>(out: &mut Output, value: D) {
-    if out.open {
-        let done = out.rt.print(value);
-        settled(out, done);
-    }
-}
-
-// In decimal, without leading zeros.
+// .. a number in decimal, without leading zeros ..
 pub fn say_number(out: &mut Output, n: u32) {
-    print(out, n);
+    out.print(n);
 }
 
-// In lower-case hexadecimal, with as many digits as it needs.
+// .. in lower-case hexadecimal, with as many digits as it needs ..
 pub fn say_hex(out: &mut Output, n: u32) {
-    print(out, format_args!("{n:x}"));
+    out.print(format_args!("{n:x}"));
 }
 
-// The same with eight digits.
+// .. and with eight.
 pub fn say_word(out: &mut Output, n: u32) {
-    print(out, format_args!("{n:08x}"));
+    out.print(format_args!("{n:08x}"));
 }

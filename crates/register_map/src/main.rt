@@ -8,9 +8,7 @@ use console::say::Output;
 fn main(rt: HostRuntime) {
     if console::program::begin(rt, 0, b"usage: register_map\n") {
         let mut out = Output::new(rt);
-        rows::region(&mut out, false);
-        rows::header(&mut out, false);
-        rows::indirect(&mut out, false);
+        rows::page(&mut out);
         rows::table(&mut out);
         console::program::end(&mut out);
     }

@@ -1,7 +1,9 @@
 // One register a row, in the order of the offsets: on the page, and in the table of the C header.
+ghost use Rattle.std.specs.Prelude.{◌≤◌};
+
 use chip::{Dac, INDIRECT_FIRST, Place, REGION_ROWS, ROWS, SUBSYSTEM};
 use console::names::say_row;
-use console::say::{Output, say, say_hex, say_number, say_word};
+use console::say::Output;
 use registers::bank::{
     bank_knowns, bank_resets, held, row_reads, row_writable, row_writes, stored_bits,
 };
@@ -15,34 +17,81 @@ const INDEXED: u32 = 0x4050;
 // An index that has a register.
 const PRESENT: u8 = 0x06;
 
-fn cell(out: &mut Output, word: u32) {
-    say(out, b" | ");
-    say_word(out, word);
+// Region 0 and the configuration header, in words of four bytes.
+const REGION_WORDS: u32 = 0x4000;
+
+const HEADER_WORDS: u32 = 64;
+
+// Where a register is, as the table of the C header numbers it.
+#[derive(Clone, Copy)]
+enum Space {
+    Region = 0,
+    Header = 3,
+    Index = 4,
 }
 
-fn small_cell(out: &mut Output, word: u32) {
-    say(out, b" | ");
-    say_hex(out, word);
-}
-
-fn directions(out: &mut Output, reads: bool, writes: bool) {
-    say(out, b" | ");
-    if reads {
-        say(out, b"read");
-        if writes {
-            say(out, b", write");
-        }
-    } else {
-        say(out, b"write");
+// At each offset of so many words ..
+fn at_offsets<F: Fn(&mut Output, u32)>(out: &mut Output, words: u32, row: F)
+    requires callable { F.IsAlwaysCallable row }
+    requires bound { words ≤ 16384 }
+{
+    for k in 0..words {
+        row(out, 4 * k);
     }
 }
 
-// The reset, and the bits of it that are known.
-fn at_reset(out: &mut Output, i: usize) {
+// .. and at each index.
+fn at_indices<F: Fn(&mut Output, u8)>(out: &mut Output, row: F)
+    requires { F.IsAlwaysCallable row }
+{
+    for i in 0..=u8::MAX {
+        row(out, i);
+    }
+}
+
+pub(crate) fn page(out: &mut Output) {
+    out.print(
+        "\n## Region 0\n\n| Register | Offset | Directions | Writable | Reset | Known at reset |\n|---|---|---|---|---|---|\n",
+    );
+    at_offsets(out, REGION_WORDS, region_row);
+    out.print(
+        "\n## Configuration header\n\n| Registers | Offset | Directions | Writable | Cleared by one | Reset | Known |\n|---|---|---|---|---|---|---|\n",
+    );
+    at_offsets(out, HEADER_WORDS, header_row);
+    out.print(
+        "\n## Indirect registers of the RAMDAC\n\n| Register | Index | Directions | Writable | Reset | Known |\n|---|---|---|---|---|---|\n",
+    );
+    at_indices(out, indirect_row);
+}
+
+pub(crate) fn table(out: &mut Output) {
+    out.print("#define PM_REGISTERS(X) \\\n");
+    at_offsets(out, REGION_WORDS, region_line);
+    at_offsets(out, HEADER_WORDS, header_line);
+    at_indices(out, indirect_line);
+}
+
+// A row's first cells: the register, its offset or index, and its directions.
+fn begin_row(out: &mut Output, i: usize, o: u32, reads: bool, writes: bool) {
+    let directions = match (reads, writes) {
+        (true, true) => "read, write",
+        (true, false) => "read",
+        (false, _) => "write",
+    };
+    out.print("| ");
+    say_row(out, i);
+    out.print(format_args!(" | {o:x} | {directions}"));
+}
+
+// A row's last cells: the reset, and the bits of it that are known.
+fn end_row(out: &mut Output, i: usize) {
     let resets = bank_resets();
     let knowns = bank_knowns();
-    cell(out, held(&resets, i));
-    cell(out, held(&knowns, i));
+    out.print(format_args!(
+        " | {:08x} | {:08x} |\n",
+        held(&resets, i),
+        held(&knowns, i)
+    ));
 }
 
 // The RAMDAC with its address at an index.
@@ -57,230 +106,102 @@ fn aimed(index: u8) -> Dac {
     }
 }
 
-// A line of the header's table: the row, 0 for region 0, 3 for the configuration header and 4 for an index, the offset or index, and the name.
-fn line(out: &mut Output, i: usize, kind: u32, o: u32) {
-    if ROWS <= i {
-        return;
-    }
-    say(out, b"    X(");
-    say_number(out, i as u32);
-    say(out, b", ");
-    say_number(out, kind);
-    say(out, b", 0x");
-    say_hex(out, o);
-    say(out, b", \"");
-    say_row(out, i);
-    if i == ROWS - 1 {
-        say(out, b"\")\n");
-    } else {
-        say(out, b"\") \\\n");
-    }
+// What is at an offset of region 0, and what at an index.
+fn at_offset(o: u32) -> Place {
+    place_of(aimed(PRESENT), 0, o)
 }
 
-// A register of region 0, or the port to the indirect ones.
-fn region_row(out: &mut Output, o: u32, i: usize) {
-    if REGION_ROWS <= i {
-        say(out, b"| RDIndexedData | ");
-        say_hex(out, o);
-        say(
-            out,
-            b" | read, write | the indirect register at the address | | |\n",
-        );
-        return;
-    }
-    say(out, b"| ");
-    say_row(out, i);
-    say(out, b" | ");
-    say_hex(out, o);
-    directions(out, row_reads(i), row_writes(i));
-    cell(out, row_writable(i));
-    at_reset(out, i);
-    say(out, b" |\n");
+fn at_index(i: u8) -> Place {
+    place_of(aimed(i), 0, INDEXED)
 }
 
-// A register of region 0 in the header's table.
-fn region_line(out: &mut Output, o: u32) {
-    let place = place_of(aimed(PRESENT), 0, o);
-    let Place::Register(i) = place else {
-        return;
-    };
-    if i < REGION_ROWS {
-        line(out, i, 0, o);
-    }
-}
-
-fn region_place(out: &mut Output, o: u32) {
-    let place = place_of(aimed(PRESENT), 0, o);
-    match place {
-        Place::Register(i) => region_row(out, o, i),
+fn region_row(out: &mut Output, o: u32) {
+    match at_offset(o) {
+        Place::Register(i) if i < REGION_ROWS => {
+            begin_row(out, i, o, row_reads(i), row_writes(i));
+            out.print(format_args!(" | {:08x}", row_writable(i)));
+            end_row(out, i);
+        }
+        // The port to the indirect ones.
+        Place::Register(_) => out.print(format_args!(
+            "| RDIndexedData | {o:x} | read, write | the indirect register at the address | | |\n"
+        )),
         Place::Address => {
-            say(out, b"| RDPalette");
-            if o == 0x4000 {
-                say(out, b"Write");
-            } else {
-                say(out, b"Read");
-            }
-            say(out, b"Address | ");
-            say_hex(out, o);
-            say(
-                out,
-                b" | read, write | the RAMDAC's one address, bits 0 to 7 | 00000000 | 00000000 |\n",
-            );
+            let way = if o == 0x4000 { "Write" } else { "Read" };
+            out.print(format_args!(
+                "| RDPalette{way}Address | {o:x} | read, write | the RAMDAC's one address, bits 0 to 7 | 00000000 | 00000000 |\n"
+            ));
         }
-        Place::PaletteData => {
-            say(out, b"| RDPaletteData | ");
-            say_hex(out, o);
-            say(
-                out,
-                b" | read, write | the entry at the address, component by component | never stored | |\n",
-            );
-        }
+        Place::PaletteData => out.print(format_args!(
+            "| RDPaletteData | {o:x} | read, write | the entry at the address, component by component | never stored | |\n"
+        )),
         _ => {}
     }
 }
 
-fn region_title(out: &mut Output) {
-    say(
-        out,
-        b"\n## Region 0\n\n| Register | Offset | Directions | Writable | Reset | Known at reset |\n|---|---|---|---|---|---|\n",
-    );
-}
-
-// On the page, or in the header's table.
-pub(crate) fn region(out: &mut Output, table: bool) {
-    if !table {
-        region_title(out);
-    }
-    let mut k: u32 = 0;
-    while k < 0x4000 {
-        if table {
-            region_line(out, k * 4);
-        } else {
-            region_place(out, k * 4);
-        }
-        k += 1;
+fn header_row(out: &mut Output, o: u32) {
+    let i = header_at(o);
+    if i < INDIRECT_FIRST {
+        begin_row(out, i, o, row_reads(i), row_writes(i));
+        writable_cell(out, i);
+        cleared_cell(out, i);
+        end_row(out, i);
     }
 }
 
 // The bits that take a write's; the subsystem numbers take a write once.
 fn writable_cell(out: &mut Output, i: usize) {
     if i == SUBSYSTEM {
-        say(out, b" | once");
-        return;
+        out.print(" | once");
+    } else {
+        out.print(format_args!(" | {:08x}", row_writable(i)));
     }
-    cell(out, row_writable(i));
 }
 
 // The bits that are stored where a write has a one, and not where it has a zero.
 fn cleared_cell(out: &mut Output, i: usize) {
     let ones = stored_bits(0, i, 15, 0xFFFFFFFF);
     let zeros = stored_bits(0, i, 15, 0);
-    cell(out, ones & !zeros);
+    out.print(format_args!(" | {:08x}", ones & !zeros));
 }
 
-fn header_row(out: &mut Output, o: u32) {
-    let i = header_at(o);
-    if INDIRECT_FIRST <= i {
-        return;
+fn indirect_row(out: &mut Output, i: u8) {
+    if index_exists(i) && let Place::Register(row) = at_index(i) {
+        let knowns = bank_knowns();
+        begin_row(out, row, u32::from(i), index_reads(i), row_writes(row));
+        out.print(format_args!(
+            " | {:x} | {:x} | {:x} |\n",
+            index_writable(i),
+            index_reset(i),
+            held(&knowns, row)
+        ));
     }
-    say(out, b"| ");
-    say_row(out, i);
-    say(out, b" | ");
-    say_hex(out, o);
-    directions(out, row_reads(i), row_writes(i));
-    writable_cell(out, i);
-    cleared_cell(out, i);
-    at_reset(out, i);
-    say(out, b" |\n");
 }
 
-fn header_title(out: &mut Output) {
-    say(
-        out,
-        b"\n## Configuration header\n\n| Registers | Offset | Directions | Writable | Cleared by one | Reset | Known |\n|---|---|---|---|---|---|---|\n",
-    );
+// A line of the header's table: the row, where the register is, its offset or index, and its name.
+fn line(out: &mut Output, i: usize, space: Space, o: u32) {
+    if i < ROWS {
+        out.print(format_args!("    X({i}, {}, 0x{o:x}, \"", space as u32));
+        say_row(out, i);
+        out.print(if i == ROWS - 1 { "\")\n" } else { "\") \\\n" });
+    }
+}
+
+fn region_line(out: &mut Output, o: u32) {
+    if let Place::Register(i) = at_offset(o) && i < REGION_ROWS {
+        line(out, i, Space::Region, o);
+    }
 }
 
 fn header_line(out: &mut Output, o: u32) {
     let i = header_at(o);
     if i < INDIRECT_FIRST {
-        line(out, i, 3, o);
+        line(out, i, Space::Header, o);
     }
-}
-
-pub(crate) fn header(out: &mut Output, table: bool) {
-    if !table {
-        header_title(out);
-    }
-    let mut k: u32 = 0;
-    while k < 64 {
-        if table {
-            header_line(out, k * 4);
-        } else {
-            header_row(out, k * 4);
-        }
-        k += 1;
-    }
-}
-
-fn indirect_row(out: &mut Output, i: u8) {
-    if !index_exists(i) {
-        return;
-    }
-    let place = place_of(aimed(i), 0, INDEXED);
-    let Place::Register(row) = place else {
-        return;
-    };
-    let knowns = bank_knowns();
-    say(out, b"| ");
-    say_row(out, row);
-    say(out, b" | ");
-    say_hex(out, i as u32);
-    directions(out, index_reads(i), row_writes(row));
-    small_cell(out, index_writable(i) as u32);
-    small_cell(out, index_reset(i) as u32);
-    small_cell(out, held(&knowns, row));
-    say(out, b" |\n");
-}
-
-fn indirect_title(out: &mut Output) {
-    say(
-        out,
-        b"\n## Indirect registers of the RAMDAC\n\n| Register | Index | Directions | Writable | Reset | Known |\n|---|---|---|---|---|---|\n",
-    );
 }
 
 fn indirect_line(out: &mut Output, i: u8) {
-    let place = place_of(aimed(i), 0, INDEXED);
-    let Place::Register(row) = place else {
-        return;
-    };
-    line(out, row, 4, i as u32);
-}
-
-fn indirect_one(out: &mut Output, table: bool, i: u8) {
-    if table {
-        indirect_line(out, i);
-    } else {
-        indirect_row(out, i);
+    if let Place::Register(row) = at_index(i) {
+        line(out, row, Space::Index, u32::from(i));
     }
-}
-
-pub(crate) fn indirect(out: &mut Output, table: bool) {
-    if !table {
-        indirect_title(out);
-    }
-    let mut i: u8 = 0;
-    while i < 255 {
-        indirect_one(out, table, i);
-        i += 1;
-    }
-    indirect_one(out, table, 255);
-}
-
-pub(crate) fn table(out: &mut Output) {
-    say(out, b"#define PM_REGISTERS(X) \\\n");
-    region(out, true);
-    header(out, true);
-    indirect(out, true);
 }

@@ -2,166 +2,71 @@
 // dots in both. With the word `counts` it leaves out the times, which vary, so that what it writes can be compared.
 #![tactic(auto)]
 
-use chip::State;
+ghost use Rattle.std.specs.Prelude.{◌<◌, ◌^◌};
+
+mod panel; // panel.rt: a panel that is written to
+
 use console::clock::microseconds;
 use console::complain::complain;
 use console::program::{begin, end, has_argument, is_argument};
-use console::say::{Output, say, say_number};
-
-fn put(s: State, offset: u32, word: u32, memory: &mut [u8], picture: &mut [u32]) -> State {
-    let r = model::write::write(s, 0, offset, 15, word, memory, picture);
-    let t = r.state;
-    t
-}
-
-// Three components of the next entry, each the same byte.
-fn entry(s: State, byte: u32, memory: &mut [u8], picture: &mut [u32]) -> State {
-    let a = put(s, 0x4008, byte, memory, picture);
-    let b = put(a, 0x4008, byte, memory, picture);
-    put(b, 0x4008, byte, memory, picture)
-}
-
-// Entries 0 to 255, each a grey of its own.
-fn greys(s: State, memory: &mut [u8], picture: &mut [u32]) -> State {
-    let mut t = s;
-    let mut i: u32 = 0;
-    while i < 256 {
-        t = entry(t, i, memory, picture);
-        i += 1;
-    }
-    t
-}
-
-fn index(s: State, i: u32, byte: u32, memory: &mut [u8], picture: &mut [u32]) -> State {
-    let a = put(s, 0x4000, i, memory, picture);
-    put(a, 0x4050, byte, memory, picture)
-}
-
-fn place(s: State, stride: u32, memory: &mut [u8], picture: &mut [u32]) -> State {
-    let a = put(s, 0x3000, 0, memory, picture);
-    put(a, 0x3008, stride, memory, picture)
-}
-
-// The palette in eight bits: RDMiscControl is index 1Eh.
-fn palette(s: State, memory: &mut [u8], picture: &mut [u32]) -> State {
-    let a = index(s, 0x1E, 2, memory, picture);
-    let b = put(a, 0x4000, 0, memory, picture);
-    greys(b, memory, picture)
-}
-
-// A panel that shows memory from byte 0 on. RDColorMode is index 18h.
-fn placed(s: State, stride: u32, memory: &mut [u8], picture: &mut [u32]) -> State {
-    let a = place(s, stride, memory, picture);
-    index(a, 0x18, 0x10, memory, picture)
-}
-
-// The same from an opening, with its palette stored.
-fn shown(width: u32, height: u32, stride: u32, memory: &mut [u8], picture: &mut [u32]) -> State {
-    let o = model::open::open(width, height, memory, picture);
-    let s = o.state;
-    let a = palette(s, memory, picture);
-    placed(a, stride, memory, picture)
-}
-
-// Write number i: four equal bytes, other than those of the write before and never zero ..
-fn word_of(i: u32) -> u32 {
-    (i % 255 + 1) * 0x01010101
-}
-
-// .. at offset 0 or, with a step, at 4 times i.
-fn offset_of(i: u32, step: u32) -> u32 {
-    if step == 0 {
-        return 0;
-    }
-    i % 100000 * 4
-}
-
-// 100,000 writes; how many dots changed in all.
-fn writes(s: State, step: u32, memory: &mut [u8], picture: &mut [u32]) -> u32 {
-    let mut t = s;
-    let mut dots: u32 = 0;
-    let mut i: u32 = 0;
-    while i < 100000 {
-        let r = model::write::write(t, 1, offset_of(i, step), 15, word_of(i), memory, picture);
-        let u = r.state;
-        t = u;
-        dots = std::num::wrapping_add_u32(dots, r.changed);
-        i += 1;
-    }
-    dots
-}
+use console::say::Output;
+use panel::{Case, Panel};
 
 fn report(out: &mut Output, times: bool, t: u32, dots: u32) {
     if times {
-        say_number(out, t);
-        say(out, b" microseconds, ");
+        out.print(format_args!("{t} microseconds, "));
     }
-    say_number(out, dots);
-    say(out, b" dots changed\n");
+    out.print(format_args!("{dots} dots changed\n"));
 }
 
-fn timed(
-    out: &mut Output,
-    times: bool,
-    s: State,
-    step: u32,
-    memory: &mut [u8],
-    picture: &mut [u32],
-) -> u32 {
-    let a = microseconds(out.rt());
-    let dots = writes(s, step, memory, picture);
-    let b = microseconds(out.rt());
-    let t = std::num::wrapping_sub_u32(b, a);
+fn timed(out: &mut Output, times: bool, panel: Panel, step: u32) -> u32 {
+    let before = microseconds(out.rt());
+    let dots = panel.writes(step);
+    let t = microseconds(out.rt()).wrapping_sub(before);
     report(out, times, t, dots);
     t
 }
 
-fn run(
-    out: &mut Output,
-    times: bool,
-    width: u32,
-    height: u32,
-    stride: u32,
-    step: u32,
-    memory: &mut [u8],
-    picture: &mut [u32],
-) -> u32 {
-    let s = shown(width, height, stride, memory, picture);
-    timed(out, times, s, step, memory, picture)
-}
-
-fn small(out: &mut Output, times: bool) -> u32 {
-    let mut memory = [0u8; 16];
-    let mut picture = [0u32; 4];
-    say(out, b"4 by 1: ");
-    run(out, times, 4, 1, 1, 0, &mut memory, &mut picture)
-}
-
-fn large(out: &mut Output, times: bool) -> u32 {
-    let mut memory = [0u8; 1048576];
-    let mut picture = [0u32; 1048576];
-    say(out, b"1024 by 1024: ");
-    run(out, times, 1024, 1024, 128, 4, &mut memory, &mut picture)
+fn run<const BYTES: usize, const DOTS: usize>(out: &mut Output, times: bool, case: Case) -> u32
+    requires bytes_bound { BYTES < 2 ^ 32 }
+    requires dots_bound { DOTS < 2 ^ 32 }
+{
+    let mut memory = [0u8; BYTES];
+    let mut picture = [0u32; DOTS];
+    out.print(format_args!("{} by {}: ", case.width, case.height));
+    let panel = Panel::shown(case, &mut memory, &mut picture);
+    timed(out, times, panel, case.step)
 }
 
 fn ratio(out: &mut Output, a: u32, b: u32) {
-    if a != 0 {
-        say(out, b"ratio in percent: ");
-        console::say::say_number(out, ((b as u64) * 100 / (a as u64) % 4294967296) as u32);
-        say(out, b"\n");
+    if let Some(percent) = (u64::from(b) * 100).checked_div(u64::from(a)) {
+        out.print(format_args!("ratio in percent: {}\n", percent % 0x100000000));
     }
 }
 
 fn measure(out: &mut Output, times: bool) {
-    let a = small(out, times);
-    let b = large(out, times);
+    let small = Case {
+        width: 4,
+        height: 1,
+        stride: 1,
+        step: 0,
+    };
+    let large = Case {
+        width: 1024,
+        height: 1024,
+        stride: 128,
+        step: 4,
+    };
+    let a = run::<16, 4>(out, times, small);
+    let b = run::<1048576, 1048576>(out, times, large);
     if times {
         ratio(out, a, b);
     }
 }
 
 fn main(rt: HostRuntime) {
-    if !begin(rt, 1, b"usage: speed [counts]\n") {
+    let usage = b"usage: speed [counts]\n";
+    if !begin(rt, 1, usage) {
         return;
     }
     let mut out = Output::new(rt);
@@ -170,7 +75,7 @@ fn main(rt: HostRuntime) {
     } else if is_argument(rt, 1, b"counts") {
         measure(&mut out, false);
     } else {
-        complain(rt, b"usage: speed [counts]\n");
+        complain(rt, usage);
     }
     end(&mut out);
 }

@@ -87,11 +87,7 @@ fn begin_row(out: &mut Output, i: usize, o: u32, reads: bool, writes: bool) {
 fn end_row(out: &mut Output, i: usize) {
     let resets = bank_resets();
     let knowns = bank_knowns();
-    out.print(format_args!(
-        " | {:08x} | {:08x} |\n",
-        held(&resets, i),
-        held(&knowns, i)
-    ));
+    out.print(format_args!(" | {:08x} | {:08x} |\n", held(&resets, i), held(&knowns, i)));
 }
 
 // The RAMDAC with its address at an index.
@@ -166,7 +162,9 @@ fn cleared_cell(out: &mut Output, i: usize) {
 }
 
 fn indirect_row(out: &mut Output, i: u8) {
-    if index_exists(i) && let Place::Register(row) = at_index(i) {
+    if index_exists(i)
+        && let Place::Register(row) = at_index(i)
+    {
         let knowns = bank_knowns();
         begin_row(out, row, u32::from(i), index_reads(i), row_writes(row));
         out.print(format_args!(
@@ -188,7 +186,9 @@ fn line(out: &mut Output, i: usize, space: Space, o: u32) {
 }
 
 fn region_line(out: &mut Output, o: u32) {
-    if let Place::Register(i) = at_offset(o) && i < REGION_ROWS {
+    if let Place::Register(i) = at_offset(o)
+        && i < REGION_ROWS
+    {
         line(out, i, Space::Region, o);
     }
 }

@@ -85,23 +85,3 @@ fn handed_on(rt: HostRuntime) -> io::Result<()> {
 pub(crate) fn lost(rt: HostRuntime, error: io::Error) {
     complain_why(rt, b"standard output can't be written", error);
 }
-
-// The same as functions, which docs/CONTRACTS.md names: bytes as they are ..
-pub fn say(out: &mut Output, text: &[u8]) {
-    out.say(text);
-}
-
-// .. a number in decimal, without leading zeros ..
-pub fn say_number(out: &mut Output, n: u32) {
-    out.print(n);
-}
-
-// .. in lower-case hexadecimal, with as many digits as it needs ..
-pub fn say_hex(out: &mut Output, n: u32) {
-    out.print(format_args!("{n:x}"));
-}
-
-// .. and with eight.
-pub fn say_word(out: &mut Output, n: u32) {
-    out.print(format_args!("{n:08x}"));
-}

@@ -13,7 +13,7 @@ use chip::{Access, DAC_BYTES, Dac, ROWS, Refusal, Reply, Wrote};
 use palette::dac::dac_of;
 use registers::place::place_of;
 
-// What a refused read or look replies, and what a refused write answers.
+// What a refused read or look replies, and what a refused write answers. Functions and not From: all three types are chip's.
 pub(crate) fn refused(why: Refusal) -> Reply
     ensures { result ≡ record { status = number_of why; word = 0; known = 0 } }
 {

@@ -29,7 +29,7 @@ fn put_answer(out: &mut [u32], n: usize, k: usize, status: u32, word: u32, known
     put_at(out, 3 * n + k, changed);
 }
 
-// Access k of the list, and its answer.
+// Access k of the list, and its answer. The parts come one by one, as bench_run is lent them by C.
 fn one(
     width: u32,
     height: u32,

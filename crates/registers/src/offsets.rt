@@ -68,7 +68,7 @@ const HEADER_OFFSETS: [u32; HEADER_ROWS] = [
     0xFC, // CFGIndirectData
 ];
 
-// The row at an offset of region 0; REGION_ROWS where there is none.
+// The row at an offset of region 0; REGION_ROWS where there is none. This number for none, and the header's, are what region_at_one and header_at_one fix.
 pub fn region_at(o: u32) -> usize
     ensures { result ≡ region_at o }
 {

@@ -8,7 +8,7 @@ fn place(s: &[u8], b: u8) -> Option<usize>
     s.iter().position(|x| *x == b)
 }
 
-// How many bytes stand before the first b: the length where there is none.
+// How many bytes stand before the first b: the length where there is none, as find_one has it.
 pub fn find(s: &[u8], b: u8) -> usize
     ensures { result ≡ length (up_to b s.now) }
 {

@@ -18,7 +18,7 @@ fn word_at(list: &[u32], k: usize) -> u32
     list.get(k).copied().unwrap_or(0)
 }
 
-// The answer of access k of n, in its four places.
+// The answer of access k of n, in its four places. By index and not by chunks: put_answer says where each word is.
 fn put_answer(out: &mut [u32], n: usize, k: usize, status: u32, word: u32, known: u32, changed: u32)
     requires { 3 * n + k < 2 ^ 64 }
     ensures { out.new ≡ put_answer n k status word known changed out.old }

@@ -1,4 +1,4 @@
-// One readable line for an access and its answer.
+// One readable line for an access and its answer. Its words are functions and no Display: the types are chip's, and each program has its own words.
 use crate::machine::Told;
 use crate::names::say_row;
 use crate::say::Output;

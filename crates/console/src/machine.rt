@@ -24,7 +24,7 @@ pub struct Told {
 }
 
 impl Machine<'_> {
-    // Carries an access out. The model takes a state by value: it is handed a copy.
+    // Carries an access out. The model takes a state by value: it is handed a copy, written out, since State is not Copy.
     pub fn ask(&mut self, a: Access) -> Told
         ensures read { a.kind ≡ Read → Gives (step_of self.old.state self.old.memory.now self.old.picture.now (reads a.target a.offset a.enables)) (answered result.status result.word result.known result.changed self.new.state) self.new.memory.now self.new.picture.now }
         ensures write { a.kind ≡ Write → Gives (step_of self.old.state self.old.memory.now self.old.picture.now (writes a.target a.offset a.enables a.word)) (answered result.status result.word result.known result.changed self.new.state) self.new.memory.now self.new.picture.now }

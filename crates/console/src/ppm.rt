@@ -1,4 +1,5 @@
 // A picture as a binary PPM file: three bytes a dot, row after row.
+use crate::rooms::Panel;
 use std::io;
 use std::io::Write;
 use text::shown::colour;
@@ -25,12 +26,7 @@ fn write_dots<W: Write>(to: &mut W, picture: &[u32]) -> io::Result<()> {
     Ok(())
 }
 
-pub(crate) fn write_picture<W: Write>(
-    to: &mut W,
-    width: u32,
-    height: u32,
-    picture: &[u32],
-) -> io::Result<()> {
-    write!(to, "P6\n{width} {height}\n255\n")?;
+pub(crate) fn write_picture<W: Write>(to: &mut W, panel: Panel, picture: &[u32]) -> io::Result<()> {
+    write!(to, "P6\n{} {}\n255\n", panel.width, panel.height)?;
     write_dots(to, picture)
 }

@@ -37,7 +37,7 @@ pub fn end(out: &mut Output) {
     out.shut();
 }
 
-// Argument i, in the room: empty where there is none, or where it is longer.
+// Argument i, in the room: empty where there is none, or where it is longer. No Option: the programs say the same of both.
 pub(crate) fn argument<'a>(rt: HostRuntime, i: usize, room: &'a mut [u8; ROOM]) -> &'a [u8] {
     let held = rt.arg(i, room).unwrap_or(0);
     &room[..held]

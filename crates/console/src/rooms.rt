@@ -10,7 +10,8 @@ use chip::Refusal;
 use model::open::open;
 use text::Size;
 
-// Memory and picture are on the stack, which commonly holds 8 MiB: 2 MiB of memory and the largest picture fit.
+// Memory and picture are on the stack, which commonly holds 8 MiB: 2 MiB of memory and the largest picture fit. Arrays
+// and no Vec: what is larger is refused in these programs' words.
 const MEMORY: usize = 2097152;
 
 const PICTURE: usize = 1048576;

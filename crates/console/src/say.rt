@@ -5,7 +5,8 @@ use std::fs::OpenOptions;
 use std::io::ErrorKind;
 use std::{fs, io};
 
-// Standard output, from when the program begins until a write fails or the program ends; nothing is written to it then.
+// Standard output, from when the program begins until a write fails or the program ends; nothing is written to it then. Open is a flag, and no type
+// for each state: any write can shut it.
 #[derive(Drop)]
 pub struct Output {
     pub(crate) rt: HostRuntime,

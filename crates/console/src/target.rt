@@ -31,12 +31,10 @@ impl Target {
     pub(crate) fn write(self, out: &Output, panel: Panel, picture: &[u32]) -> io::Result<()> {
         match self {
             Target::Nowhere => Ok(()),
-            Target::Output if out.open => {
-                write_picture(&mut out.rt.stdout(), panel.width, panel.height, picture)
-            }
+            Target::Output if out.open => { write_picture(&mut out.rt.stdout(), panel, picture) }
             Target::Output => Err(not_open()),
             Target::Made(mut file) => {
-                write_picture(&mut file, panel.width, panel.height, picture)?;
+                write_picture(&mut file, panel, picture)?;
                 kept(&file)
             }
         }

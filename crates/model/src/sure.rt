@@ -13,7 +13,7 @@ use chip::{Access, DAC_BYTES, Dac, ROWS, Refusal, Reply, Wrote};
 use palette::dac::dac_of;
 use registers::place::place_of;
 
-// What a refused read or look replies, and what a refused write answers. Functions and not From: all three types are chip's.
+// What a refused read or look replies, and what a refused write answers. Functions and no From in chip: the model alone answers so.
 pub(crate) fn refused(why: Refusal) -> Reply
     ensures { result ≡ record { status = number_of why; word = 0; known = 0 } }
 {

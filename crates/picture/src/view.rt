@@ -40,6 +40,7 @@ fn is_unplaced(knowns: &[u32; ROWS]) -> bool
         || knowns[PIXEL_MASK] % 256 != 0xFF
 }
 
+// 03000000h and 05000000h, and 02 and 04 below, are words and no enum: a dot's word is what C reads in the picture.
 #[tactic(auto, unfolding(crate::specs::View::shown_in))]
 fn shown_in(values: &[u32; ROWS], knowns: &[u32; ROWS]) -> Option<u32>
     ensures { result ≡ shown_in values.now knowns.now }

@@ -1,14 +1,13 @@
 // One register a row, in the order of the offsets: on the page, and in the table of the C header.
 ghost use Rattle.std.specs.Prelude.{◌≤◌};
 
-use chip::{Dac, INDIRECT_FIRST, Place, REGION_ROWS, ROWS, SUBSYSTEM};
+use chip::{Dac, Place, REGION_ROWS, ROWS, SUBSYSTEM};
 use console::names::say_row;
 use console::say::Output;
 use registers::bank::{
     bank_knowns, bank_resets, held, row_reads, row_writable, row_writes, stored_bits,
 };
 use registers::indirect::{index_exists, index_reads, index_reset, index_writable};
-use registers::offsets::header_at;
 use registers::place::place_of;
 
 // The offset of RDIndexedData.
@@ -95,16 +94,17 @@ fn aimed(index: u8) -> Dac {
     Dac {
         address: index,
         known: 0xFF,
-        component: 0,
-        staged: 0,
-        red: 0,
-        green: 0,
+        ..Dac::default()
     }
 }
 
-// What is at an offset of region 0, and what at an index.
+// What is at an offset of region 0, at one of the header, and at an index.
 fn at_offset(o: u32) -> Place {
     place_of(aimed(PRESENT), 0, o)
+}
+
+fn at_header(o: u32) -> Place {
+    place_of(aimed(PRESENT), 3, o)
 }
 
 fn at_index(i: u8) -> Place {
@@ -136,8 +136,7 @@ fn region_row(out: &mut Output, o: u32) {
 }
 
 fn header_row(out: &mut Output, o: u32) {
-    let i = header_at(o);
-    if i < INDIRECT_FIRST {
+    if let Place::Register(i) = at_header(o) {
         begin_row(out, i, o, row_reads(i), row_writes(i));
         writable_cell(out, i);
         cleared_cell(out, i);
@@ -194,8 +193,7 @@ fn region_line(out: &mut Output, o: u32) {
 }
 
 fn header_line(out: &mut Output, o: u32) {
-    let i = header_at(o);
-    if i < INDIRECT_FIRST {
+    if let Place::Register(i) = at_header(o) {
         line(out, i, Space::Header, o);
     }
 }

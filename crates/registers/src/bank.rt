@@ -14,7 +14,8 @@ use super::table::columns_sound;
 use bits::{bit_of, bits_inside, bits_joined, bits_merged, bits_outside, lanes_of, put_at};
 use chip::{Access, COMMAND, ROWS, SUBSYSTEM};
 
-// The directions, a bit for each row: the rows that are read, and the rows that are written.
+// The directions, a bit for each row: the rows that are read, and the rows that are written. Sets of three words, and no columns of bools: a constant
+// table is built on the stack at each use (docs/PERFORMANCE.md).
 const READS: [u32; 3] = [0xFFFFFFFF, 0xFFFFFFF, 0x7E20];
 
 const WRITES: [u32; 3] = [0xFFFF3FFF, 0xFFFFFFFF, 0x7FFF];

@@ -12,22 +12,29 @@ use console::program::{begin, end, has_argument, is_argument};
 use console::say::Output;
 use panel::{Case, Panel};
 
-fn report(out: &mut Output, times: bool, t: u32, dots: u32) {
-    if times {
+// What is said of the writes: how long they took too, or only how many dots changed.
+#[derive(Clone, Copy, PartialEq, Eq)]
+enum Told {
+    Times,
+    Counts,
+}
+
+fn report(out: &mut Output, told: Told, t: u32, dots: u32) {
+    if told == Told::Times {
         out.print(format_args!("{t} microseconds, "));
     }
     out.print(format_args!("{dots} dots changed\n"));
 }
 
-fn timed(out: &mut Output, times: bool, panel: Panel, step: u32) -> u32 {
+fn timed(out: &mut Output, told: Told, panel: Panel, step: u32) -> u32 {
     let before = microseconds(out.rt());
     let dots = panel.writes(step);
     let t = microseconds(out.rt()).wrapping_sub(before);
-    report(out, times, t, dots);
+    report(out, told, t, dots);
     t
 }
 
-fn run<const BYTES: usize, const DOTS: usize>(out: &mut Output, times: bool, case: Case) -> u32
+fn run<const BYTES: usize, const DOTS: usize>(out: &mut Output, told: Told, case: Case) -> u32
     requires bytes_bound { BYTES < 2 ^ 32 }
     requires dots_bound { DOTS < 2 ^ 32 }
 {
@@ -35,16 +42,17 @@ fn run<const BYTES: usize, const DOTS: usize>(out: &mut Output, times: bool, cas
     let mut picture = [0u32; DOTS];
     out.print(format_args!("{} by {}: ", case.width, case.height));
     let panel = Panel::shown(case, &mut memory, &mut picture);
-    timed(out, times, panel, case.step)
+    timed(out, told, panel, case.step)
 }
 
+// Its lower 32 bits.
 fn ratio(out: &mut Output, a: u32, b: u32) {
     if let Some(percent) = (u64::from(b) * 100).checked_div(u64::from(a)) {
         out.print(format_args!("ratio in percent: {}\n", percent % 0x100000000));
     }
 }
 
-fn measure(out: &mut Output, times: bool) {
+fn measure(out: &mut Output, told: Told) {
     let small = Case {
         width: 4,
         height: 1,
@@ -57,9 +65,9 @@ fn measure(out: &mut Output, times: bool) {
         stride: 128,
         step: 4,
     };
-    let a = run::<16, 4>(out, times, small);
-    let b = run::<1048576, 1048576>(out, times, large);
-    if times {
+    let a = run::<16, 4>(out, told, small);
+    let b = run::<1048576, 1048576>(out, told, large);
+    if told == Told::Times {
         ratio(out, a, b);
     }
 }
@@ -71,9 +79,9 @@ fn main(rt: HostRuntime) {
     }
     let mut out = Output::new(rt);
     if !has_argument(rt, 1) {
-        measure(&mut out, true);
+        measure(&mut out, Told::Times);
     } else if is_argument(rt, 1, b"counts") {
-        measure(&mut out, false);
+        measure(&mut out, Told::Counts);
     } else {
         complain(rt, usage);
     }

@@ -1,4 +1,5 @@
-// A panel that is written to, by value: each write hands the state on.
+// A panel that is written to, by value: each write hands the state on. Not console's machine, which copies the state at each access: the copies would
+// be measured too.
 use chip::State;
 use model::open::open;
 use model::write::write;

@@ -1,4 +1,4 @@
--- What a digit counts, test by test, and a number's digits one by one.
+-- What a digit counts, which is the library's `to_digit`, and a number's digits one by one.
 -- By cases on the tests; 16 to the power of at most seven is below 2 ^ 28 by computing. Assumes nothing.
 use Prim.Native.Nat.{ℕ, suc, ◌+◌, ◌*◌, ◌^◌, ◌<◌, ◌≤◌}
 use mathlib.Core.Bool.{true, false}

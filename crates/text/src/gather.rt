@@ -17,7 +17,8 @@ fn copy(s: &[u8], buffer: &mut [u8], held: usize) -> usize
     held + n
 }
 
-// Takes the chunk's bytes from a place on, up to a newline or its end.
+// Takes the chunk's bytes from a place on, up to a newline or its end. Buffer and length stand apart, as gather_one has them; a caller keeps both in one
+// struct.
 pub fn gather(chunk: &[u8], from: usize, buffer: &mut [u8], held: usize) -> Taken
     ensures { Gathers chunk.now from buffer.old held result buffer.new }
 {

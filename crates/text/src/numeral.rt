@@ -3,6 +3,7 @@ ghost use Rattle.std.specs.Prelude.{◌≡◌, [], ◌∷◌, ◌+◌, ◌≤◌
 ghost use Rattle.text.specs.Numeral.{glyph_of, is_short, numeral_of};
 ghost use Rattle.text.specs.Answer.{Wrote};
 
+// Not by char::from_digit, whose None would have to be answered here.
 #[tactic(auto, unfolding(crate::specs::Numeral::glyph_of))]
 pub(crate) fn glyph(d: u32) -> u8
     requires { d < 16 }
@@ -22,7 +23,7 @@ fn is_short(base: u32, least: u32, n: u32) -> bool
     n < base && least <= 1
 }
 
-// The line so far, and where its next byte goes.
+// The line so far, and where its next byte goes. An array: nothing here is on the heap.
 #[derive(Clone, Copy)]
 pub(crate) struct Line {
     pub(crate) bytes: [u8; 40],

@@ -22,7 +22,7 @@ fn digit_at(word: u32, known: u32, unit: u32) -> u8
 pub fn word(shown: u32, known: u32) -> [u8; 8]
     ensures { result ≡ word_shown shown known }
 {
-    // Written out, as `word_shown` is: a loop would add an index and its shift.
+    // Written out, as word_shown is: of a map over the eight units the proof did not close.
     [
         digit_at(shown, known, 0x10000000),
         digit_at(shown, known, 0x1000000),

@@ -8,7 +8,6 @@ use native.Mathlib.Omega.{arith}
 use borrow.Author.Tests.{eq-eqb, ne_eqb}
 use lib.Dec.{eqb}
 use lib.ListN.{length}
-use Rattle.std.specs.Prelude.{Result, Ok, Err, IsErrAnd, ⊤}
 use Rattle.bits.specs.Choose.{pick}
 use Rattle.bits.specs.Word.{lanes_of}
 use Rattle.bits.proofs.Cases.{by_test}
@@ -16,7 +15,6 @@ use Rattle.bits.proofs.Words.{inside_zero}
 use Rattle.bits.proofs.Bools.{and_true}
 use Rattle.chip.specs.declared.State.{State}
 use Rattle.chip.specs.declared.Access.{Access}
-use Rattle.chip.specs.declared.Answer.{Answer}
 use Rattle.chip.specs.declared.Reply.{Reply}
 use Rattle.chip.specs.declared.Seen.{Seen}
 use Rattle.chip.specs.declared.Kind.TheVariants.{Read, Write, Look}
@@ -35,7 +33,6 @@ use Rattle.chip.specs.Picture.{word_of}
 use Rattle.chip.specs.Step.{Outcome, Gives, answered, refused, settled, seen_by, patch_of, state_after, memory_after, done_by, given_by, step_of, sure_of, undrawn, surely_of}
 use Rattle.chip.proofs.Operations.{write_is, look_is, read_writes_not, read_looks_not, look_writes_not}
 use Rattle.chip.proofs.Ports.{read_steps}
-use Rattle.chip.proofs.Sure.{surely_step_lem}
 use Rattle.picture.specs.Draw.{Redraws}
 use Rattle.picture.proofs.Parts.{still_redraws}
 use Rattle.model.specs.Places.{reply_of, panel_fits, Puts}
@@ -54,11 +51,6 @@ refusal_counts Direction h = absurd (omega arith)
 refusal_counts Mode h = absurd (omega arith)
 refusal_counts Panel h = absurd (omega arith)
 refusal_counts Memory h = absurd (omega arith)
-
--- what `?` gives where an outcome is refused
-pub err_is : {E : Type 0} {r : Result ⊤ E} {P : E → Type 0} (x : E) → IsErrAnd r P → ((e : E) → P e → e ≡ x) → r ≡ Err x
-err_is {r = Ok y} x h p = absurd h
-err_is {r = Err e} x h p = ap Err (p e h)
 
 -- ---- a new state settled
 
@@ -176,6 +168,3 @@ module _ (s : State) (m l : List ℕ) (a : Access) (t : Bool) (et : t ≡ is_sta
       let q : status_of s (length m) (length l) a ≡ 1 = simp (sym et ∙ e) in
       let z : step_of s m l a ≡ refused 1 s m l = ap (λ (k : ℕ). pick (eqb k 0) (done_by s m l a) (refused k s m l)) q in
       subst (λ (o : Outcome). Gives o (answered 1 0 0 0 s) m l) (sym z) (record { answer = refl; memory = refl; picture = refl })
-
-  pub step_surely : (r : Answer) (m' l' : List ℕ) → t ≡ true → Gives (surely_of s m l a) r m' l' → Gives (step_of s m l a) r m' l'
-  step_surely r m' l' e g = subst (λ (o : Outcome). Gives o r m' l') (sym (surely_step_lem s m l a (sym et ∙ e))) g

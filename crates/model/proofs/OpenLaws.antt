@@ -1,4 +1,4 @@
--- The refusals of an opening line by line, the reset state from its parts, and the opening put together.
+-- The refusals of an opening line by line, and the opening put together.
 -- By cases on the tests, and field by field. Assumes nothing.
 use Prim.Native.Nat.{ℕ, ◌*◌, ◌%◌, ◌≤◌}
 use mathlib.Core.Bool.{Bool, true, false, ◌&&◌}
@@ -10,12 +10,8 @@ use lib.ListN.{length, replicate}
 use Rattle.bits.specs.Choose.{pick}
 use Rattle.bits.proofs.Bools.{and_second}
 use Rattle.chip.specs.declared.State.{State}
-use Rattle.chip.specs.declared.Dac.{Dac}
 use Rattle.chip.specs.declared.Opened.{Opened}
-use Rattle.chip.specs.Dac.{reset_dac}
-use Rattle.chip.specs.Palette.{empty_palette}
 use Rattle.chip.specs.Sound.{panel_ok, memory_ok}
-use Rattle.chip.specs.Bank.{bank_resets, bank_knowns}
 use Rattle.chip.specs.State.{reset_state}
 use Rattle.chip.specs.Refusal.{opening_lines, opening_status}
 use Rattle.chip.specs.Step.{Opening, Opens, blank_word, open_of}
@@ -47,15 +43,6 @@ unfolding memory_ok
 opens_small w h ml pl n e z =
     let m = (unrefused_opening w h ml pl (sym e ∙ z)).memory in
     leb-true ml 8388608 (and_second (leb 8 ml) (leb ml 8388608) (and_second (eqb (ml % 8) 0) (leb 8 ml && leb ml 8388608) m))
-
--- ---- the reset state
-
-pub reset_of : (w h f : ℕ) (v k : List ℕ) (d : Dac) (p : List ℕ) → v ≡ bank_resets → k ≡ bank_knowns → d ≡ reset_dac → p ≡ empty_palette
-    → (let s : State = record { width = w; height = h; fitted = f; once = 0; values = v; knowns = k; dac = d; palette = p } in s) ≡ reset_state w h f
-unfolding reset_state
-reset_of w h f v k d p ev ek ed ep =
-    ap₂ (λ (x y : List ℕ). (let s : State = record { width = w; height = h; fitted = f; once = 0; values = x; knowns = y; dac = d; palette = p } in s)) ev ek
-    ∙ ap₂ (λ (x : Dac) (y : List ℕ). (let s : State = record { width = w; height = h; fitted = f; once = 0; values = bank_resets; knowns = bank_knowns; dac = x; palette = y } in s)) ed ep
 
 -- ---- the opening
 

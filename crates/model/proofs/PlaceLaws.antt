@@ -17,12 +17,12 @@ use Rattle.chip.specs.declared.Dac.{Dac}
 use Rattle.chip.specs.declared.Place.{Place}
 use Rattle.chip.specs.declared.Place.TheVariants.{Register, Address, PaletteData, Window, Blank, Nowhere}
 use Rattle.chip.specs.Bank.{misc_control}
-use Rattle.chip.specs.Dac.{aimed_at, after_fetch, after_paint, both_staged, completed_by}
+use Rattle.chip.specs.Dac.{after_paint, both_staged, completed_by}
 use Rattle.chip.specs.Palette.{entry_of, store_entry, kept_as}
 use Rattle.chip.specs.Parts.{made}
 use Rattle.chip.specs.Patch.{Patch, applied, memory_with}
 use Rattle.chip.specs.Picture.{colour_word, word_of}
-use Rattle.chip.specs.Port.{wide, row_patch, aim_patch, fetch_patch, kept_from, paint_patch, poke_patch, port_at}
+use Rattle.chip.specs.Port.{wide, row_patch, aim_patch, kept_from, paint_patch, poke_patch, port_at}
 use Rattle.chip.proofs.Entries.{entry_other}
 use Rattle.chip.proofs.Ports.{read_steps}
 use Rattle.picture.specs.declared.view.View.{View}
@@ -160,33 +160,3 @@ entry_painted v e c m p l x y r p' l' ex ep ey g =
       palette = ep;
       drawn = marks_ruled v p p' m e x y ex ey (λ k n. sym (ap (λ (q : List ℕ). entry_of q k) ep ∙ entry_other p e k c n)) _ l r l' g;
     }
-
--- the pointer after a read, by lane 0
-pub fetched_yes : (w h f o : ℕ) (vs ks pal : List ℕ) (d d' : Dac) (a : Access) (t : Bool) → t ≡ bit 0 a.enables → t ≡ true → d' ≡ after_fetch d
-    → d' ≡ Option.get_or (port_at (made w h f o vs ks pal d) a PaletteData).fetched.dac d
-unfolding port_at fetch_patch
-fetched_yes w h f o vs ks pal d d' a t e g x = x ∙ sym (simp (sym e ∙ g))
-
-pub fetched_no : (w h f o : ℕ) (vs ks pal : List ℕ) (d : Dac) (a : Access) (t : Bool) → t ≡ bit 0 a.enables → t ≡ false
-    → d ≡ Option.get_or (port_at (made w h f o vs ks pal d) a PaletteData).fetched.dac d
-unfolding port_at fetch_patch
-fetched_no w h f o vs ks pal d a t e g = sym (simp (sym e ∙ g))
-
--- the address after a write, by lane 0
-pub aimed_yes : (d d' : Dac) (a : Access) (t : Bool) → t ≡ bit 0 a.enables → t ≡ true → d' ≡ aimed_at (lane_byte 0 a.word) → d' ≡ Option.get_or (aim_patch a).dac d
-unfolding aim_patch
-aimed_yes d d' a t e g x = x ∙ sym (simp (sym e ∙ g))
-
-pub aimed_no : (d : Dac) (a : Access) (t : Bool) → t ≡ bit 0 a.enables → t ≡ false → d ≡ Option.get_or (aim_patch a).dac d
-unfolding aim_patch
-aimed_no d a t e g = sym (simp (sym e ∙ g))
-
--- a read fetches nothing at any place but the palette's data
-pub other_fetched : (s : State) (a : Access) (p : Place) → (p ≡ PaletteData → ⊥) → (port_at s a p).fetched.dac ≡ Option.none
-unfolding port_at
-other_fetched s a (Register i) n = refl
-other_fetched s a Address n = refl
-other_fetched s a PaletteData n = absurd (n refl)
-other_fetched s a (Window i) n = refl
-other_fetched s a Blank n = refl
-other_fetched s a Nowhere n = refl

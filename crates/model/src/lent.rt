@@ -10,6 +10,7 @@ use crate::sure::{not_written, refused, sure_look, sure_read, sure_write};
 use chip::{DAC_BYTES, ROWS, Refusal, Reply, Wrote};
 use palette::dac::dac_of;
 
+#[tactic(auto, using(crate::proofs::DoneLaws::step_none, chip::proofs::Sure::surely_step_lem))]
 pub fn read<'a>(
     width: u32,
     height: u32,
@@ -46,6 +47,7 @@ pub fn read<'a>(
     )
 }
 
+#[tactic(auto, using(crate::proofs::DoneLaws::step_none, chip::proofs::Sure::surely_step_lem))]
 pub fn write(
     width: u32,
     height: u32,
@@ -84,6 +86,7 @@ pub fn write(
     )
 }
 
+#[tactic(auto, using(crate::proofs::DoneLaws::step_none, chip::proofs::Sure::surely_step_lem))]
 pub fn look<'a>(
     width: u32,
     height: u32,
@@ -112,6 +115,7 @@ pub fn look<'a>(
     )
 }
 
+#[tactic(auto, using(crate::proofs::OpenLaws::opens_small, crate::proofs::OpenLaws::opens_refused, crate::proofs::OpenLaws::opens_done, crate::proofs::DoneLaws::refusal_counts))]
 pub fn open(
     width: &mut u32,
     height: &mut u32,

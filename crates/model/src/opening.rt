@@ -31,6 +31,7 @@ pub(crate) fn check_opening(
 }
 
 // Every part takes its reset value.
+#[tactic(auto, unfolding(chip::specs::State::reset_state))]
 pub(crate) fn reset_parts(
     width: &mut u32,
     height: &mut u32,

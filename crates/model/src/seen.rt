@@ -1,4 +1,6 @@
 // What a read or a look sees before its lanes are picked.
+#![tactic(auto, unfolding(chip::specs::Port::port_at, chip::specs::Port::wide, chip::specs::Port::known_in, chip::specs::Port::word_in))]
+
 ghost use Rattle.std.specs.Prelude.{ℕ, ◌≡◌, get_or};
 ghost use Rattle.bits.specs.Bit.{bit};
 ghost use Rattle.bits.specs.Word.{full};

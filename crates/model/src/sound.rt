@@ -21,6 +21,7 @@ fn sizes_ok(width: u32, height: u32, fitted: u32, once: u32) -> bool
     picture::redraw::panel_fits(width, height) && memory_ok(u64::from(fitted)) && once <= 3
 }
 
+#[tactic(auto, using(crate::proofs::TestLaws::all_tests))]
 pub fn is_state<'a>(
     width: u32,
     height: u32,

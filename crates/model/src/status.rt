@@ -1,4 +1,6 @@
 // The refusals of a read, a write and a look after the first, in the order 2 to 7.
+#![tactic(auto, unfolding(chip::specs::Port::port_at, chip::specs::Access::is_write, crate::specs::Stages::place_lines, crate::specs::Stages::form_lines, crate::specs::Stages::later_from, crate::specs::Stages::later_at))]
+
 ghost use Rattle.std.specs.Prelude.{ℕ, List, ◌≡◌};
 ghost use Rattle.bits.specs.Choose.{pick};
 ghost use Rattle.chip.specs.declared.Dac.{Dac};
@@ -44,6 +46,7 @@ fn check_window(fitted: u32, values: &[u32; ROWS], a: Access, i: usize) -> Resul
 }
 
 // Lines 5, 6 and 7.
+#[tactic(auto, using(crate::proofs::TestLaws::open_place, crate::proofs::TestLaws::no_place))]
 fn check_place(fitted: u32, values: &[u32; ROWS], a: Access, p: Place) -> Result<(), Refusal>
     ensures { (w h o : ℕ) (ks q : List ℕ) (d : Dac) → status_given result ≡ first_of (place_lines (port_at (made w h fitted o values.now ks q d) a p) (is_write a)) }
 {

@@ -53,6 +53,7 @@ fn write_register<'a>(
     }
 }
 
+#[tactic(auto, unfolding(chip::specs::Port::aim_patch))]
 fn write_address(dac: &mut [u8; DAC_BYTES], a: Access)
     ensures { dac_of dac.new ≡ get_or (aim_patch a).dac (dac_of dac.old) }
 {
@@ -150,6 +151,7 @@ pub(crate) fn write_at(
     }
 }
 
+#[tactic(auto, unfolding(chip::specs::Port::port_at, chip::specs::Port::fetch_patch))]
 fn fetch(dac: &mut [u8; DAC_BYTES], a: Access)
     ensures { (w h f o : ℕ) (vs ks q : List ℕ) → dac_of dac.new ≡ get_or (port_at (state_of w h f o vs ks q dac.old) a PaletteData).fetched.dac (dac_of dac.old) }
 {
@@ -160,6 +162,7 @@ fn fetch(dac: &mut [u8; DAC_BYTES], a: Access)
 }
 
 // A read alters the palette's address, component and stage, and nothing else.
+#[tactic(auto, unfolding(chip::specs::Port::port_at))]
 pub(crate) fn fetch_at(dac: &mut [u8; DAC_BYTES], a: Access, p: Place)
     ensures { (w h f o : ℕ) (vs ks q : List ℕ) → dac_of dac.new ≡ get_or (port_at (state_of w h f o vs ks q dac.old) a p).fetched.dac (dac_of dac.old) }
 {

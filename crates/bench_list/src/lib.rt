@@ -121,13 +121,13 @@ pub extern "C" fn bench_run(
 }
 
 #[unsafe(no_mangle)]
-pub extern "C" fn bench_read<'a>(
+pub extern "C" fn bench_read(
     s: State,
     target: u32,
     offset: u32,
     enables: u32,
-    memory: &'a [u8],
-    picture: &'a [u32],
+    memory: &[u8],
+    picture: &[u32],
 ) -> Answer
     ensures { Gives (step_of s memory.now picture.now (reads target offset enables)) result memory.now picture.now }
 {

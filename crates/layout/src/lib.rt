@@ -28,14 +28,14 @@ pub extern "C" fn made_wrote(status: u32, changed: u32) -> Wrote
 
 // The parts in the order of the struct: the RAMDAC's six numbers are address to staged_green.
 #[unsafe(no_mangle)]
-pub extern "C" fn made_state<'a>(
+pub extern "C" fn made_state(
     width: u32,
     height: u32,
     fitted: u32,
     once: u32,
-    values: &'a [u32; ROWS],
-    knowns: &'a [u32; ROWS],
-    palette: &'a [u32; 256],
+    values: &[u32; ROWS],
+    knowns: &[u32; ROWS],
+    palette: &[u32; 256],
     address: u8,
     known: u8,
     component: u8,

@@ -15,7 +15,7 @@ ghost use Rattle.model.specs.Places.{reply_of};
 use chip::{Access, Dac, MISC_CONTROL, Place, ROWS, Reply, Seen};
 use registers::bank::held;
 
-fn seen_register<'a>(values: &'a [u32; ROWS], knowns: &'a [u32; ROWS], i: usize) -> Seen
+fn seen_register(values: &[u32; ROWS], knowns: &[u32; ROWS], i: usize) -> Seen
     ensures { result ≡ seen (get_or values.now i 0) (get_or knowns.now i 0) }
 {
     Seen {
@@ -31,13 +31,13 @@ pub(crate) fn palette_wide(values: &[u32; ROWS]) -> bool
     bits::bit_of(1, held(values, MISC_CONTROL))
 }
 
-fn seen_data<'a>(values: &'a [u32; ROWS], palette: &'a [u32; 256], d: Dac) -> Seen
+fn seen_data(values: &[u32; ROWS], palette: &[u32; 256], d: Dac) -> Seen
     ensures { result ≡ seen_part (bit 1 (get_or values.now misc_control 0)) d.component (entry_of palette.now d.address) }
 {
     palette::entries::seen_palette(palette_wide(values), d, palette)
 }
 
-fn seen_window<'a>(values: &'a [u32; ROWS], a: Access, i: usize, memory: &'a [u8]) -> Seen
+fn seen_window(values: &[u32; ROWS], a: Access, i: usize, memory: &[u8]) -> Seen
     ensures { result ≡ seen (word_from (get_or values.now i 0) memory.now (at_byte a.offset)) full }
 {
     let control = held(values, i);
@@ -47,14 +47,14 @@ fn seen_window<'a>(values: &'a [u32; ROWS], a: Access, i: usize, memory: &'a [u8
     }
 }
 
-pub(crate) fn seen_at<'a>(
-    values: &'a [u32; ROWS],
-    knowns: &'a [u32; ROWS],
-    palette: &'a [u32; 256],
+pub(crate) fn seen_at(
+    values: &[u32; ROWS],
+    knowns: &[u32; ROWS],
+    palette: &[u32; 256],
     d: Dac,
     a: Access,
     p: Place,
-    memory: &'a [u8],
+    memory: &[u8],
 ) -> Seen
     ensures { (w h f o : ℕ) → result ≡ (port_at (made w h f o values.now knowns.now palette.now d) a p).seen memory.now }
 {

@@ -22,14 +22,14 @@ fn sizes_ok(width: u32, height: u32, fitted: u32, once: u32) -> bool
 }
 
 #[tactic(auto, using(crate::proofs::TestLaws::all_tests))]
-pub fn is_state<'a>(
+pub fn is_state(
     width: u32,
     height: u32,
     fitted: u32,
     once: u32,
-    values: &'a [u32; ROWS],
-    knowns: &'a [u32; ROWS],
-    palette: &'a [u32; 256],
+    values: &[u32; ROWS],
+    knowns: &[u32; ROWS],
+    palette: &[u32; 256],
     d: Dac,
 ) -> bool
     ensures { result ≡ is_state (made width height fitted once values.now knowns.now palette.now d) }

@@ -1,15 +1,13 @@
 // A write through an aperture: each enabled lane's byte, and the dots that show it.
-ghost use Rattle.std.specs.Prelude.{get_or};
-ghost use Rattle.picture.specs.View.{view_in};
 ghost use Rattle.model.specs.Lanes.{LaneIn, WindowIn};
 
-use chip::{Access, ROWS};
+use chip::Access;
 use picture::view::View;
 
 // Lane j, where it is enabled: its byte, and the dots that show it.
-fn write_lane<'a>(
+fn write_lane(
     v: View,
-    palette: &'a [u32; 256],
+    palette: &[u32; 256],
     control: u32,
     a: Access,
     j: u32,
@@ -26,10 +24,10 @@ fn write_lane<'a>(
     }
 }
 
-// Lane after lane; the number of words that changed.
-fn write_lanes<'a>(
+// Lane after lane, through an aperture with this control; the number of words that changed.
+pub(crate) fn write_lanes(
     v: View,
-    palette: &'a [u32; 256],
+    palette: &[u32; 256],
     control: u32,
     a: Access,
     memory: &mut [u8],
@@ -42,23 +40,4 @@ fn write_lanes<'a>(
         changed += write_lane(v, palette, control, a, j, memory, picture);
     }
     changed
-}
-
-// Through the aperture whose control register is in a row.
-pub(crate) fn write_window<'a>(
-    width: u32,
-    height: u32,
-    values: &'a [u32; ROWS],
-    knowns: &'a [u32; ROWS],
-    palette: &'a [u32; 256],
-    a: Access,
-    row: usize,
-    memory: &mut [u8],
-    picture: &mut [u32],
-) -> u32
-    ensures { WindowIn (view_in width height values.now knowns.now) palette.now (get_or values.now row 0) a memory.old picture.old result memory.new picture.new }
-{
-    let v = picture::view::view_of(width, height, values, knowns);
-    let control = registers::bank::held(values, row);
-    write_lanes(v, palette, control, a, memory, picture)
 }

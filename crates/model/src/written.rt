@@ -10,13 +10,14 @@ ghost use Rattle.chip.specs.Port.{aim_patch, port_at};
 ghost use Rattle.picture.specs.View.{view_in};
 ghost use Rattle.model.specs.Places.{Puts, Paints};
 
+use crate::window::write_lanes;
 use bits::{bit_of, lane_byte};
 use chip::{
     Access, COLOR_MODE, Colour, DAC_BYTES, PIXEL_MASK, Place, ROWS, SCREEN_BASE, SCREEN_STRIDE,
 };
 use palette::dac::{dac_of, put_dac};
-use picture::view::view_of;
-use registers::bank::write_row;
+use picture::view::{View, view_of};
+use registers::bank::{held, write_row};
 
 // What the picture reads of the bank.
 #[tactic(auto, unfolding(crate::specs::Parts::row_shows))]
@@ -27,16 +28,16 @@ fn row_shows(i: usize) -> bool
 }
 
 // A register: the old view, the store, the new view, and the redraw between the two; a row that no view reads needs none.
-fn write_register<'a>(
+fn write_register(
     width: u32,
     height: u32,
     once: &mut u32,
     values: &mut [u32; ROWS],
     knowns: &mut [u32; ROWS],
-    palette: &'a [u32; 256],
+    palette: &[u32; 256],
     a: Access,
     i: usize,
-    memory: &'a [u8],
+    memory: &[u8],
     picture: &mut [u32],
 ) -> u32
     ensures { (f : ℕ) (d : Dac) → Puts (made width height f once.old values.old knowns.old palette.now d) a (Register i) memory.now picture.old result
@@ -63,35 +64,31 @@ fn write_address(dac: &mut [u8; DAC_BYTES], a: Access)
 }
 
 // The third component of an entry: its old word, the store, and the dots that show it.
-fn paint<'a>(
-    width: u32,
-    height: u32,
-    values: &'a [u32; ROWS],
-    knowns: &'a [u32; ROWS],
+fn paint(
+    v: View,
     palette: &mut [u32; 256],
     e: u8,
     c: Colour,
-    memory: &'a [u8],
+    memory: &[u8],
     picture: &mut [u32],
 ) -> u32
-    ensures { Paints (view_in width height values.now knowns.now) e c memory.now palette.old picture.old result palette.new picture.new }
+    ensures { Paints v e c memory.now palette.old picture.old result palette.new picture.new }
 {
-    let v = view_of(width, height, values, knowns);
     let old = picture::view::entry_word(palette, e);
     palette::entries::store_entry(palette, e, c);
     let new = picture::view::entry_word(palette, e);
     picture::redraw::redraw_entry(v, e, old, new, memory, picture)
 }
 
-fn write_data<'a>(
+fn write_data(
     width: u32,
     height: u32,
-    values: &'a [u32; ROWS],
-    knowns: &'a [u32; ROWS],
+    values: &[u32; ROWS],
+    knowns: &[u32; ROWS],
     palette: &mut [u32; 256],
     dac: &mut [u8; DAC_BYTES],
     a: Access,
-    memory: &'a [u8],
+    memory: &[u8],
     picture: &mut [u32],
 ) -> u32
     ensures { (f o : ℕ) → Puts (state_of width height f o values.now knowns.now palette.old dac.old) a PaletteData memory.now picture.old result
@@ -111,9 +108,8 @@ fn write_data<'a>(
         green: d.green,
         blue: v,
     };
-    paint(
-        width, height, values, knowns, palette, d.address, c, memory, picture,
-    )
+    let shown = view_of(width, height, values, knowns);
+    paint(shown, palette, d.address, c, memory, picture)
 }
 
 // A write at a place; the number of words of the picture that changed.
@@ -144,9 +140,10 @@ pub(crate) fn write_at(
         Place::PaletteData => write_data(
             width, height, values, knowns, palette, dac, a, memory, picture,
         ),
-        Place::Window(i) => crate::window::write_window(
-            width, height, values, knowns, palette, a, i, memory, picture,
-        ),
+        Place::Window(i) => {
+            let v = view_of(width, height, values, knowns);
+            write_lanes(v, palette, held(values, i), a, memory, picture)
+        }
         Place::Blank | Place::Nowhere => 0,
     }
 }

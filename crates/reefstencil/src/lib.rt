@@ -51,20 +51,20 @@ pub extern "C" fn pm_open_v2(
 }
 
 #[unsafe(no_mangle)]
-pub extern "C" fn pm_read_v2<'a>(
+pub extern "C" fn pm_read_v2(
     width: u32,
     height: u32,
     fitted: u32,
     once: u32,
     values: &mut [u32; ROWS],
-    knowns: &'a [u32; ROWS],
-    palette: &'a [u32; 256],
+    knowns: &[u32; ROWS],
+    palette: &[u32; 256],
     dac: &mut [u8; DAC_BYTES],
     target: u32,
     offset: u32,
     enables: u32,
-    memory: &'a [u8],
-    picture: &'a [u32],
+    memory: &[u8],
+    picture: &[u32],
 ) -> Reply
     ensures { Gives (step_of (state_of width height fitted once values.old knowns.now palette.now dac.old) memory.now picture.now (reads target offset enables))
         (replied (state_of width height fitted once values.new knowns.now palette.now dac.new) result) memory.now picture.now }
@@ -102,20 +102,20 @@ pub extern "C" fn pm_write_v2(
 }
 
 #[unsafe(no_mangle)]
-pub extern "C" fn pm_look_v2<'a>(
+pub extern "C" fn pm_look_v2(
     width: u32,
     height: u32,
     fitted: u32,
     once: u32,
-    values: &'a [u32; ROWS],
-    knowns: &'a [u32; ROWS],
-    palette: &'a [u32; 256],
-    dac: &'a [u8; DAC_BYTES],
+    values: &[u32; ROWS],
+    knowns: &[u32; ROWS],
+    palette: &[u32; 256],
+    dac: &[u8; DAC_BYTES],
     target: u32,
     offset: u32,
     enables: u32,
-    memory: &'a [u8],
-    picture: &'a [u32],
+    memory: &[u8],
+    picture: &[u32],
 ) -> Reply
     ensures { Gives (step_of (state_of width height fitted once values.now knowns.now palette.now dac.now) memory.now picture.now (looks target offset enables))
         (replied (state_of width height fitted once values.now knowns.now palette.now dac.now) result) memory.now picture.now }

@@ -424,7 +424,7 @@ pub fn fixed_after(once: u32, i: usize, e: u32) -> u32
 }
 
 // No register has a fault. Those of the subsystem numbers that are fixed may differ from their reset.
-pub fn bank_sound<'a>(once: u32, values: &'a [u32; ROWS], knowns: &'a [u32; ROWS]) -> bool
+pub fn bank_sound(once: u32, values: &[u32; ROWS], knowns: &[u32; ROWS]) -> bool
     ensures { result ≡ bank_sound once values.now knowns.now }
 {
     columns_sound(

@@ -7,7 +7,7 @@ pub returns-in-Address : goal.returns-in-Address
 returns-in-Address c = λ f. at_put _ _ _ _ _ _ _ _ _ _ c.in-Address.is (address_put _ _ f _ _ _ _ _ _ _ _ _ c.write_address.ensures)
 
 pub returns-in-Window : goal.returns-in-Window
-returns-in-Window c = λ f. at_put _ _ _ _ _ _ _ _ _ _ c.in-Window.is (window_put_lem _ _ f _ _ _ _ _ _ _ _ _ _ _ _ c.write_window.ensures)
+returns-in-Window c = λ f. at_put _ _ _ _ _ _ _ _ _ _ c.in-Window.is (window_put_lem _ _ f _ _ _ _ _ _ _ _ _ _ _ _ (rw (c.view_of-v.ensures, c.held.ensures) at c.write_lanes.ensures))
 
 pub returns-in-Blank : goal.returns-in-Blank
 returns-in-Blank c =

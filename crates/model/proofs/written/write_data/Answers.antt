@@ -16,4 +16,4 @@ pub returns-then-not-completes : goal.returns-then-not-completes
 returns-then-not-completes c = λ f o. data_staged _ _ f o _ _ _ _ _ _ _ _ c.bit_of.ensures c.if-not-bit_of.false _ (rw (← c.palette_wide.ensures, ← c.lane_byte.ensures) c.kept_as-v.ensures) _ (ap dac_of c.put_dac.ensures ∙ c.after_paint.ensures ∙ ap (λ (x : Dac). after_paint x c.kept_as-v.result) c.dac_of-d.ensures) _ (c.completes.ensures ∙ ap (λ (x : Dac). eqb x.component 2 && both_staged x) c.dac_of-d.ensures) c.if-not-completes.true
 
 pub returns : goal.returns
-returns c = λ f o. data_painted _ _ f o _ _ _ _ _ _ _ _ c.bit_of.ensures c.if-not-bit_of.false _ (rw (← c.palette_wide.ensures, ← c.lane_byte.ensures) c.kept_as-v.ensures) _ (ap dac_of c.put_dac.ensures ∙ c.after_paint.ensures ∙ ap (λ (x : Dac). after_paint x c.kept_as-v.result) c.dac_of-d.ensures) _ (c.completes.ensures ∙ ap (λ (x : Dac). eqb x.component 2 && both_staged x) c.dac_of-d.ensures) _ _ _ _ c.dac_of-d.ensures c.if-not-completes.false c.paint.ensures
+returns c = λ f o. data_painted _ _ f o _ _ _ _ _ _ _ _ c.bit_of.ensures c.if-not-bit_of.false _ (rw (← c.palette_wide.ensures, ← c.lane_byte.ensures) c.kept_as-v.ensures) _ (ap dac_of c.put_dac.ensures ∙ c.after_paint.ensures ∙ ap (λ (x : Dac). after_paint x c.kept_as-v.result) c.dac_of-d.ensures) _ (c.completes.ensures ∙ ap (λ (x : Dac). eqb x.component 2 && both_staged x) c.dac_of-d.ensures) _ _ _ _ c.dac_of-d.ensures c.if-not-completes.false (rw c.view_of-shown.ensures at c.paint.ensures)

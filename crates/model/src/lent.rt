@@ -11,20 +11,20 @@ use chip::{DAC_BYTES, ROWS, Refusal, Reply, Wrote};
 use palette::dac::dac_of;
 
 #[tactic(auto, using(crate::proofs::DoneLaws::step_none, chip::proofs::Sure::surely_step_lem))]
-pub fn read(
+pub fn read<'a>(
     width: u32,
     height: u32,
     fitted: u32,
     once: u32,
     values: &mut [u32; ROWS],
-    knowns: &[u32; ROWS],
-    palette: &[u32; 256],
+    knowns: &'a [u32; ROWS],
+    palette: &'a [u32; 256],
     dac: &mut [u8; DAC_BYTES],
     target: u32,
     offset: u32,
     enables: u32,
-    memory: &[u8],
-    picture: &[u32],
+    memory: &'a [u8],
+    picture: &'a [u32],
 ) -> Reply
     ensures { Gives (step_of (state_of width height fitted once values.old knowns.now palette.now dac.old) memory.now picture.now (reads target offset enables))
         (replied (state_of width height fitted once values.new knowns.now palette.now dac.new) result) memory.now picture.now }
@@ -87,20 +87,20 @@ pub fn write(
 }
 
 #[tactic(auto, using(crate::proofs::DoneLaws::step_none, chip::proofs::Sure::surely_step_lem))]
-pub fn look(
+pub fn look<'a>(
     width: u32,
     height: u32,
     fitted: u32,
     once: u32,
-    values: &[u32; ROWS],
-    knowns: &[u32; ROWS],
-    palette: &[u32; 256],
-    dac: &[u8; DAC_BYTES],
+    values: &'a [u32; ROWS],
+    knowns: &'a [u32; ROWS],
+    palette: &'a [u32; 256],
+    dac: &'a [u8; DAC_BYTES],
     target: u32,
     offset: u32,
     enables: u32,
-    memory: &[u8],
-    picture: &[u32],
+    memory: &'a [u8],
+    picture: &'a [u32],
 ) -> Reply
     ensures { Gives (step_of (state_of width height fitted once values.now knowns.now palette.now dac.now) memory.now picture.now (looks target offset enables))
         (replied (state_of width height fitted once values.now knowns.now palette.now dac.now) result) memory.now picture.now }

@@ -5,13 +5,13 @@ ghost use Rattle.chip.specs.Step.{step_of, Gives};
 use chip::{Answer, State};
 use palette::dac::{dac_bytes, dac_of};
 
-pub fn read(
+pub fn read<'a>(
     s: State,
     target: u32,
     offset: u32,
     enables: u32,
-    memory: &[u8],
-    picture: &[u32],
+    memory: &'a [u8],
+    picture: &'a [u32],
 ) -> Answer
     ensures { Gives (step_of s memory.now picture.now (reads target offset enables)) result memory.now picture.now }
 {

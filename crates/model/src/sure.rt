@@ -34,20 +34,20 @@ pub(crate) fn not_written(why: Refusal) -> Wrote
 }
 
 // The values are lent to be altered, although no read of today alters them: a read of the cursor's memory will (02, C-16).
-pub fn sure_read(
+pub fn sure_read<'a>(
     width: u32,
     height: u32,
     fitted: u32,
     once: u32,
     values: &mut [u32; ROWS],
-    knowns: &[u32; ROWS],
-    palette: &[u32; 256],
+    knowns: &'a [u32; ROWS],
+    palette: &'a [u32; 256],
     dac: &mut [u8; DAC_BYTES],
     target: u32,
     offset: u32,
     enables: u32,
-    memory: &[u8],
-    picture: &[u32],
+    memory: &'a [u8],
+    picture: &'a [u32],
 ) -> Reply
     ensures { Gives (surely_of (state_of width height fitted once values.old knowns.now palette.now dac.old) memory.now picture.now (reads target offset enables))
         (replied (state_of width height fitted once values.new knowns.now palette.now dac.new) result) memory.now picture.now }

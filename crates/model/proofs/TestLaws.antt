@@ -7,7 +7,7 @@ use native.Mathlib.Omega.{arith}
 use borrow.Author.Tests.{eqb-true}
 use lib.Dec.{eqb}
 use Rattle.bits.specs.Choose.{pick}
-use Rattle.bits.proofs.Bools.{and_second}
+use Rattle.std.specs.Cmp.{second_so}
 use Rattle.bits.proofs.Cases.{by_test}
 use Rattle.chip.specs.declared.Place.{Place}
 use Rattle.chip.specs.declared.State.{State}
@@ -91,7 +91,7 @@ pub lent_size : (s : State) (ml pl : ℕ) (a : Access) → later_status s ml pl 
 unfolding later_status later_lines
 lent_size s ml pl a e =
     let t : (eqb ml s.fitted && eqb pl (s.width * s.height)) ≡ true = by_test (eqb ml s.fitted && eqb pl (s.width * s.height)) (λ u. u) (λ u. absurd (let z : 2 ≡ 0 = sym (simp u) ∙ e in omega arith)) in
-    eqb-true pl (s.width * s.height) (and_second (eqb ml s.fitted) (eqb pl (s.width * s.height)) t)
+    eqb-true pl (s.width * s.height) (second_so (eqb ml s.fitted) (eqb pl (s.width * s.height)) t)
 
 -- ---- refusal 1 as the code groups and joins its tests
 

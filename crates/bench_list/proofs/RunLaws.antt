@@ -1,4 +1,4 @@
--- A run over a list: one access, an access more, and the whole.
+-- A run over a list: one access, what the loop keeps, and the whole.
 -- The definitions opened; an access is a read or a write by its third word. Assumes nothing.
 use Prim.Native.Nat.{ℕ, ◌+◌, ◌*◌, ◌/◌, ◌%◌, ◌≤◌}
 use mathlib.Core.Bool.{Bool, true, false}

@@ -1,4 +1,4 @@
--- A palette word with its flag turned over is at most 01000000h exactly where refusal 1 passes it, and so is the larger of two exactly where both are.
+-- A palette word with its flag turned over is at most 01000000h exactly where refusal 1 passes it.
 -- By the word's top byte. Assumes nothing.
 use Prim.Native.Nat.{ℕ, ◌+◌, ◌-◌, ◌*◌, ◌/◌, ◌%◌, ◌^◌}
 use mathlib.Core.Path.{◌≡◌, ap, ap₂, ◌∙◌}

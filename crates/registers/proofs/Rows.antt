@@ -1,18 +1,18 @@
--- The bank by its columns, and what a write of a row stores.
--- A column is computed from the rows, and is the row's number at each; the subsystem's row is told from the others by its number. Assumes nothing.
+-- The bank by its columns.
+-- A column is computed from the rows, and is the row's number at each. Assumes nothing.
 use Prim.Native.Nat.{ℕ, ◌/◌, ◌%◌, ◌≤◌}
 use mathlib.Core.Bool.{Bool, true, false}
 use mathlib.Core.List.{List, [], ◌∷◌, map}
 use mathlib.Core.Path.{◌≡◌, refl, sym, ap, ◌∙◌}
 use native.Mathlib.Omega.{arith}
-use borrow.Author.Tests.{eqb-true, eqb-false, ne_eqb, ltb-true, ltb-false}
+use borrow.Author.Tests.{eqb-true, eqb-false, ltb-true, ltb-false}
 use lib.Dec.{eqb, ltb}
 use lib.ListN.{get_or, length, set, replicate, get_or-eq_default, get_or-map}
 use lib.Seq.{get_or-set_other}
 use Rattle.std.proofs.lemmas.Bool.{agree_below, agree_below_at}
 use Rattle.bits.specs.Choose.{pick}
 use Rattle.bits.specs.Bit.{bit}
-use Rattle.bits.specs.Word.{joined, lanes_of}
+use Rattle.bits.specs.Word.{joined}
 use Rattle.bits.proofs.Cases.{by_test}
 use Rattle.bits.proofs.Gathers.{every_same}
 use Rattle.bits.proofs.Lists.{zeros_at}
@@ -22,8 +22,8 @@ use Rattle.chip.specs.Region.{region_rows}
 use Rattle.chip.specs.Header.{header_rows}
 use Rattle.chip.specs.Indirect.{indirect_rows}
 use Rattle.chip.specs.Bank.{bank_rows, bank_count, bank_row, bank_resets, bank_knowns, subsystem}
-use Rattle.chip.specs.Register.{may_change, moved_bits}
-use Rattle.chip.specs.Subsystem.{half_bits, stored_bits, exempt}
+use Rattle.chip.specs.Register.{may_change}
+use Rattle.chip.specs.Subsystem.{half_bits, exempt}
 use Rattle.chip.specs.Sound.{row_ok, bank_sound}
 use Rattle.chip.proofs.Tables.{bank_length, resets_at, knowns_at}
 use Rattle.registers.specs.Columns.{column_ok, columns_sound, in_set}
@@ -101,9 +101,3 @@ clears_at i =
     ∙ by_test (eqb i 39)
     (λ e. simp e (ap (λ (k : ℕ). get_or (set (replicate bank_count 0) 39 0x30000000) k 0) (eqb-true i 39 e)))
     (λ e. simp e (get_or-set_other (replicate bank_count 0) 39 i 0x30000000 0 (eqb-false i 39 e) ∙ zeros_at bank_count i))
-
--- ---- a write of a row that is not the subsystem's
-
-pub stored_other : (once i e word : ℕ) {m : ℕ} → (i ≡ subsystem → ⊥) → m ≡ moved_bits (bank_row i) (lanes_of e) word → m ≡ stored_bits once i e word
-unfolding stored_bits
-stored_other once i e word n p = p ∙ sym (simp (ne_eqb i subsystem n))

@@ -1,16 +1,15 @@
--- A run over a list: one access, an access more, and the whole.
+-- A run over a list: one access, what the loop keeps, and the whole.
 -- The definitions opened; an access is a read or a write by its third word. Assumes nothing.
-use Prim.Native.Nat.{ℕ, ◌+◌, ◌*◌, ◌/◌, ◌%◌, ◌<◌, ◌≤◌}
+use Prim.Native.Nat.{ℕ, ◌+◌, ◌*◌, ◌/◌, ◌%◌, ◌≤◌}
 use mathlib.Core.Bool.{Bool, true, false}
 use mathlib.Core.List.{List}
 use mathlib.Core.Path.{◌≡◌, refl, sym, ap, ap₂, ◌∙◌, subst}
-use native.Mathlib.Numerals.{add-one}
 use native.Mathlib.Omega.{arith}
 use borrow.Author.Tests.{eq-eqb, ne_eqb}
 use lib.Dec.{eqb}
-use lib.ListN.{get_or, set, length, length-set}
+use lib.ListN.{get_or, length}
+use Rattle.std.proofs.lemmas.Bool.Decides.{nat_tests}
 use Rattle.bits.specs.Choose.{pick}
-use Rattle.bits.proofs.Bools.{and_false}
 use Rattle.chip.specs.declared.State.{State}
 use Rattle.chip.specs.declared.Access.{Access}
 use Rattle.chip.specs.declared.Answer.{Answer}
@@ -22,13 +21,7 @@ use Rattle.chip.specs.Parts.{replied, wrote, made, state_of, dac_of}
 use Rattle.chip.specs.Sound.{is_state}
 use Rattle.chip.specs.Step.{Outcome, Gives, surely_of}
 use Rattle.chip.specs.Trace.{World}
-use Rattle.bench_list.specs.Run.{access_at, world_of, outcome_at, left_by, put_answer, answered, world_to, answers_to, Ones, list_fits, run_status, Runs}
-
--- ---- the answer in its places
-
-pub put_four : (n k a b c d : ℕ) (l l1 l2 l3 l4 : List ℕ) → l1 ≡ set l k a → l2 ≡ set l1 (n + k) b → l3 ≡ set l2 (2 * n + k) c → l4 ≡ set l3 (3 * n + k) d → l4 ≡ put_answer n k a b c d l
-put_four n k a b c d l l1 l2 l3 l4 p q r s =
-    s ∙ ap (λ (x : List ℕ). set x (3 * n + k) d) (r ∙ ap (λ (x : List ℕ). set x (2 * n + k) c) (q ∙ ap (λ (x : List ℕ). set x (n + k) b) p))
+use Rattle.bench_list.specs.Run.{access_at, world_of, outcome_at, put_answer, answered, world_to, answers_to, Ones, list_fits, run_status, Runs}
 
 -- ---- one access, from what a read or a write gives
 
@@ -65,27 +58,6 @@ pub record Ran (x : World) (l : List ℕ) (n : ℕ) (o : List ℕ) (k : ℕ) (s 
   pub picture : length p ≡ length x.picture
   pub upto : k ≤ n
 
-pub ran_none : (x : World) (l : List ℕ) (n : ℕ) (o : List ℕ) → Ran x l n o 0 x.state x.memory x.picture o
-ran_none x l n o = record { world = refl; answers = refl; size = refl; memory = refl; picture = refl; upto = omega arith }
-
-put_length : (n k : ℕ) (r : Answer) (l : List ℕ) → length (answered n k r l) ≡ length l
-put_length n k r l =
-    length-set (set (set (set l k r.status) (n + k) r.word) (2 * n + k) r.known) (3 * n + k) r.changed
-    ∙ length-set (set (set l k r.status) (n + k) r.word) (2 * n + k) r.known ∙ length-set (set l k r.status) (n + k) r.word ∙ length-set l k r.status
-
-pub ran_more : (x : World) (l : List ℕ) (n : ℕ) (o : List ℕ) (k : ℕ) (s : State) (m p a : List ℕ) (s' : State) (m' p' a' : List ℕ) → k < n → length m' ≡ length m → length p' ≡ length p → Ran x l n o k s m p a
-    → Ones s m p l n k a s' m' p' a' → Ran x l n o (k + 1) s' m' p' a'
-ran_more x l n o k s m p a s' m' p' a' h em ep r y =
-    subst (λ (i : ℕ). Ran x l n o i s' m' p' a') (sym (add-one k))
-    (record {
-      world = y.world ∙ ap (λ (w : World). left_by (outcome_at w l k)) r.world;
-      answers = y.answers ∙ ap₂ (λ (w : World) (b : List ℕ). answered n k (outcome_at w l k).answer b) r.world r.answers;
-      size = ap length y.answers ∙ put_length n k (outcome_at (world_of s m p) l k).answer a ∙ r.size;
-      memory = em ∙ r.memory;
-      picture = ep ∙ r.picture;
-      upto = omega (arith, add-one k);
-    })
-
 -- ---- the whole
 
 -- the test of a state, by its parts
@@ -115,19 +87,19 @@ module _ (s : State) (m p l o : List ℕ) (t : Bool) (et : t ≡ is_state s) whe
 
 pub list_wrong : (n o : ℕ) → (n % 5 ≡ 0 → ⊥) → list_fits n o ≡ false
 unfolding list_fits
-list_wrong n o h = simp (ne_eqb n (5 * (n / 5)) (λ e. h (omega (arith, e))))
+list_wrong n o h = grind (arith, nat_tests)
 
 pub room_wrong : (n o : ℕ) → (o / 4 ≡ n / 5 → ⊥) → list_fits n o ≡ false
 unfolding list_fits
-room_wrong n o h = simp (ne_eqb (o / 4) (n / 5) h, and_false)
+room_wrong n o h = grind (arith, nat_tests)
 
 pub room_odd : (n o : ℕ) → (o % 4 ≡ 0 → ⊥) → list_fits n o ≡ false
 unfolding list_fits
-room_odd n o h = simp (ne_eqb (o % 4) 0 h, and_false)
+room_odd n o h = grind (arith, nat_tests)
 
 pub list_right : (n o : ℕ) → n % 5 ≡ 0 → o / 4 ≡ n / 5 → o % 4 ≡ 0 → list_fits n o ≡ true
 unfolding list_fits
-list_right n o e f h = simp (eq-eqb n (5 * (n / 5)) (omega (arith, e)), eq-eqb (o / 4) (n / 5) f, eq-eqb (o % 4) 0 h)
+list_right n o e f h = grind (arith, nat_tests)
 
 -- ---- any two outcomes of one run are equal
 

@@ -3,7 +3,7 @@
 use Rattle.std.proofs.Common.{◌≡◌, ℕ, ◌*◌, ◌%◌, ◌≤◌, true, ◌&&◌, eqb, leb, refl, eqb-true, leb-true}
 use borrow.Author.Tests.{not-false}
 use Rattle.bits.specs.Choose.{pick}
-use Rattle.bits.proofs.Bools.{and_first, and_second}
+use Rattle.std.specs.Cmp.{first_so, second_so}
 use Rattle.chip.specs.declared.State.{State}
 use Rattle.chip.specs.declared.Access.{Access}
 use Rattle.chip.specs.Access.{is_write}
@@ -33,10 +33,10 @@ unrefused s ml pl a e =
     let asked = not-false (leb a.target 3 && leb a.enables 15) (none 2) in
     record {
       state = not-false (is_state s) (none 0);
-      memory = eqb-true ml s.fitted (and_first (eqb ml s.fitted) (eqb pl (s.width * s.height)) sizes);
-      picture = eqb-true pl (s.width * s.height) (and_second (eqb ml s.fitted) (eqb pl (s.width * s.height)) sizes);
-      target = leb-true a.target 3 (and_first (leb a.target 3) (leb a.enables 15) asked);
-      enables = leb-true a.enables 15 (and_second (leb a.target 3) (leb a.enables 15) asked);
+      memory = eqb-true ml s.fitted (first_so (eqb ml s.fitted) (eqb pl (s.width * s.height)) sizes);
+      picture = eqb-true pl (s.width * s.height) (second_so (eqb ml s.fitted) (eqb pl (s.width * s.height)) sizes);
+      target = leb-true a.target 3 (first_so (leb a.target 3) (leb a.enables 15) asked);
+      enables = leb-true a.enables 15 (second_so (leb a.target 3) (leb a.enables 15) asked);
       aligned = eqb-true (a.offset % 4) 0 (not-false (eqb (a.offset % 4) 0) (none 3));
       present = not-false (port_of s a).present (none 4);
       direction = not-false (pick (is_write a) (port_of s a).writes (port_of s a).reads) (none 5);

@@ -1,18 +1,12 @@
 -- Sums of places that do not wrap are the plain sums.
 -- A number below the modulus is its own remainder. Assumes nothing.
-use Rattle.std.proofs.Common.{◌≡◌, ℕ, ◌+◌, ◌-◌, ◌*◌, ◌%◌, ◌<◌, ap, ◌∙◌, arith}
+use Rattle.std.proofs.Common.{◌≡◌, ℕ, ◌+◌, ◌-◌, ◌%◌, ◌<◌, ap, ◌∙◌, arith}
 use Rattle.chip.specs.declared.Units.{Units}
 use Rattle.chip.specs.declared.Bytes.{Bytes}
-use Rattle.chip.specs.Units.{at_byte, bytes_of, units_plus, units_times, bytes_along, bytes_since}
+use Rattle.chip.specs.Units.{at_byte, bytes_of, bytes_along, bytes_since}
 
 pub along_is : (b : Bytes) (n : ℕ) (r : Bytes) → r ≡ bytes_along b n → b.0 + n < 0x10000000000000000 → r ≡ at_byte (b.0 + n)
 along_is b n r e h = e ∙ ap at_byte (let z : (b.0 + n) % 0x10000000000000000 ≡ b.0 + n = omega arith in z)
-
-pub plus_is : (u v r : Units) → r ≡ units_plus u v → u.0 + v.0 < 0x100000000 → r.0 ≡ u.0 + v.0
-plus_is u v r e h = ap (λ (x : Units). x.0) e ∙ (let z : (u.0 + v.0) % 0x100000000 ≡ u.0 + v.0 = omega arith in z)
-
-pub times_is : (u : Units) (n : ℕ) (r : Units) → r ≡ units_times u n → u.0 * n < 0x100000000 → r.0 ≡ u.0 * n
-times_is u n r e h = ap (λ (x : Units). x.0) e ∙ (let z : (u.0 * n) % 0x100000000 ≡ u.0 * n = omega arith in z)
 
 -- what is inside
 pub in_bytes_is : (u : Units) (b : Bytes) → b ≡ bytes_of u → b.0 ≡ (bytes_of u).0

@@ -1,7 +1,7 @@
 -- From what is done at a place to what the definition of an access gives: reads, writes, looks, refusals, without refusal 1 and with it.
 -- The definitions opened one after the other; reads and looks draw nothing (QuietLaws). Assumes nothing.
 use Prim.Native.Nat.{ℕ, ◌*◌}
-use mathlib.Core.Bool.{Bool, true, false}
+use mathlib.Core.Bool.{Bool, true, false, and-true}
 use mathlib.Core.List.{List}
 use mathlib.Core.Path.{◌≡◌, refl, sym, ap, ap₂, ◌∙◌, subst}
 use native.Mathlib.Omega.{arith}
@@ -12,7 +12,6 @@ use Rattle.bits.specs.Choose.{pick}
 use Rattle.bits.specs.Word.{lanes_of}
 use Rattle.bits.proofs.Cases.{by_test}
 use Rattle.bits.proofs.Words.{inside_zero}
-use Rattle.bits.proofs.Bools.{and_true}
 use Rattle.chip.specs.declared.State.{State}
 use Rattle.chip.specs.declared.Access.{Access}
 use Rattle.chip.specs.declared.Reply.{Reply}
@@ -154,7 +153,7 @@ module _ (s : State) (m l : List ℕ) (a : Access) (p : Place) (n : ℕ) (f : Fo
   pub surely_write : (r : ℕ) (s' : State) (m' l' : List ℕ) → n ≡ 0 → a.kind ≡ Write → Puts s a p m l r s' m' l' → Gives (surely_of s m l a) (answered 0 0 0 r s') m' l'
   surely_write r s' m' l' h e x =
       let z : length l ≡ s.width * s.height = lent_size s (length m) (length l) a (sym en ∙ h) in
-      let t : panel_fits s (length l) ≡ panel_ok s.width s.height = simp (eq-eqb (length l) (s.width * s.height) z, eq-eqb s.width s.width refl) (and_true (panel_ok s.width s.height)) in
+      let t : panel_fits s (length l) ≡ panel_ok s.width s.height = simp (eq-eqb (length l) (s.width * s.height) z, eq-eqb s.width s.width refl) (and-true (panel_ok s.width s.height)) in
       surely_done s' m' 0 0 r l' h
       (done_write s m l a p f.place m' e (sym x.memory) ∙ ap (λ (y : State). settled s m l y m' 0 0) (sym x.state))
       (subst (λ (b : Bool). Redraws b (word_of s m) (word_of s' m') l r l') t x.drawn)

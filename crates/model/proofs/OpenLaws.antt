@@ -8,7 +8,7 @@ use borrow.Author.Tests.{eq-eqb, ne_eqb, leb-true}
 use lib.Dec.{eqb, leb}
 use lib.ListN.{length, replicate}
 use Rattle.bits.specs.Choose.{pick}
-use Rattle.bits.proofs.Bools.{and_second}
+use Rattle.std.specs.Cmp.{second_so}
 use Rattle.chip.specs.declared.State.{State}
 use Rattle.chip.specs.declared.Opened.{Opened}
 use Rattle.chip.specs.Sound.{panel_ok, memory_ok}
@@ -42,7 +42,7 @@ pub opens_small : (w h ml pl n : ℕ) → n ≡ opening_status w h ml pl → n �
 unfolding memory_ok
 opens_small w h ml pl n e z =
     let m = (unrefused_opening w h ml pl (sym e ∙ z)).memory in
-    leb-true ml 8388608 (and_second (leb 8 ml) (leb ml 8388608) (and_second (eqb (ml % 8) 0) (leb 8 ml && leb ml 8388608) m))
+    leb-true ml 8388608 (second_so (leb 8 ml) (leb ml 8388608) (second_so (eqb (ml % 8) 0) (leb 8 ml && leb ml 8388608) m))
 
 -- ---- the opening
 

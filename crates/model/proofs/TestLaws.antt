@@ -7,7 +7,7 @@ use mathlib.Core.Path.{◌≡◌, refl, sym, ap, ap₂, ◌∙◌}
 use native.Mathlib.Omega.{arith}
 use borrow.Author.Tests.{eqb-true}
 use lib.Dec.{eqb}
-use Rattle.bits.proofs.Bools.{and_second}
+use Rattle.std.specs.Cmp.{second_so}
 use Rattle.bits.proofs.Cases.{by_test, pick_same}
 use Rattle.chip.specs.declared.Place.{Place}
 use Rattle.chip.specs.declared.Place.TheVariants.{Address, PaletteData, Blank, Nowhere}
@@ -42,7 +42,7 @@ pub lent_size : (s : State) (ml pl : ℕ) (a : Access) → later_status s ml pl 
 unfolding later_status later_lines
 lent_size s ml pl a e =
     let t : (eqb ml s.fitted && eqb pl (s.width * s.height)) ≡ true = by_test (eqb ml s.fitted && eqb pl (s.width * s.height)) (λ u. u) (λ u. absurd (let z : 2 ≡ 0 = sym (simp u) ∙ e in omega arith)) in
-    eqb-true pl (s.width * s.height) (and_second (eqb ml s.fitted) (eqb pl (s.width * s.height)) t)
+    eqb-true pl (s.width * s.height) (second_so (eqb ml s.fitted) (eqb pl (s.width * s.height)) t)
 
 -- ---- refusal 1 as the code groups and joins its tests
 

@@ -64,7 +64,7 @@ fn turned(w: u32) -> u32
 }
 
 // Refusal 1's test of the palette: the largest of the turned words decides, so that a turn of the loop is an XOR and a maximum.
-#[tactic(auto, using(crate::proofs::EntryLaws::max_both), unfolding(chip::specs::Palette::entry_ok, chip::specs::Palette::palette_ok))]
+#[tactic(auto, using(std::proofs::lemmas::Bool::Decides::nat_tests), unfolding(chip::specs::Palette::entry_ok, chip::specs::Palette::palette_ok))]
 pub fn palette_sound(p: &[u32; 256]) -> bool
     ensures { result ≡ palette_ok p.now }
 {

@@ -13,7 +13,8 @@ use lib.Seq.{get_or-set_same, get_or-set_other, set_out}
 use Rattle.bits.specs.Choose.{pick}
 use Rattle.bits.specs.Word.{inside}
 use Rattle.bits.proofs.Cases.{by_test}
-use Rattle.bits.proofs.Bools.{clash, and_first, and_second}
+use Rattle.std.specs.Cmp.{first_so, second_so}
+use Rattle.bits.proofs.Bools.{clash}
 use Rattle.chip.specs.Units.{at_byte}
 use Rattle.chip.specs.Palette.{entry_of}
 use Rattle.chip.specs.Picture.{row_start, dot_byte, ruled, beyond, colour_word, dot_entry, under_byte, under_at, laid_at, word_at, view_word, chosen}
@@ -63,12 +64,12 @@ module _ (s : View) (q : List ℕ) (m : List ℕ) (at v j : ℕ) where
 places : (v n : View) → same_place v n ≡ true → (v.base ≡ n.base) × (v.stride ≡ n.stride) × (v.mask ≡ n.mask) × (v.width ≡ n.width)
 unfolding same_place
 places v n e =
-    let a = and_second (eqb v.base n.base) (eqb v.stride n.stride && (eqb v.mask n.mask && eqb v.width n.width)) e in
-    let b = and_second (eqb v.stride n.stride) (eqb v.mask n.mask && eqb v.width n.width) a in (
-      eqb-true _ _ (and_first (eqb v.base n.base) (eqb v.stride n.stride && (eqb v.mask n.mask && eqb v.width n.width)) e),
-      eqb-true _ _ (and_first (eqb v.stride n.stride) (eqb v.mask n.mask && eqb v.width n.width) a),
-      eqb-true _ _ (and_first (eqb v.mask n.mask) (eqb v.width n.width) b),
-      eqb-true _ _ (and_second (eqb v.mask n.mask) (eqb v.width n.width) b),
+    let a = second_so (eqb v.base n.base) (eqb v.stride n.stride && (eqb v.mask n.mask && eqb v.width n.width)) e in
+    let b = second_so (eqb v.stride n.stride) (eqb v.mask n.mask && eqb v.width n.width) a in (
+      eqb-true _ _ (first_so (eqb v.base n.base) (eqb v.stride n.stride && (eqb v.mask n.mask && eqb v.width n.width)) e),
+      eqb-true _ _ (first_so (eqb v.stride n.stride) (eqb v.mask n.mask && eqb v.width n.width) a),
+      eqb-true _ _ (first_so (eqb v.mask n.mask) (eqb v.width n.width) b),
+      eqb-true _ _ (second_so (eqb v.mask n.mask) (eqb v.width n.width) b),
     )
 
 -- a dot's word by what the view says of every dot, its place in memory and the mask

@@ -1,7 +1,7 @@
 -- The palette's address after an opening and any list of accesses: unknown until it is set, and then the value set plus one for each third component.
 -- The address and the component together are a position from 0 to 767, which a read or a write of palette data moves by one. Assumes nothing.
 use Prim.Native.Nat.{ℕ, ◌+◌, ◌*◌, ◌%◌, ◌<◌, ◌≤◌}
-use mathlib.Core.Bool.{Bool, true, false}
+use mathlib.Core.Bool.{Bool, true, false, and-false}
 use mathlib.Core.List.{List, [], ◌∷◌, ◌++◌}
 use mathlib.Core.Logic.{◌⊎◌, inl, inr}
 use mathlib.Core.Option.{Option, none, some, get_or}
@@ -13,7 +13,7 @@ use Rattle.bits.specs.Choose.{pick}
 use Rattle.bits.specs.Bit.{bit}
 use Rattle.bits.specs.Word.{lane_byte}
 use Rattle.bits.proofs.Cases.{by_test, pick_by}
-use Rattle.bits.proofs.Bools.{and_first, and_second, and_false}
+use Rattle.std.specs.Cmp.{first_so, second_so}
 use Rattle.chip.specs.declared.State.{State}
 use Rattle.chip.specs.declared.Access.{Access}
 use Rattle.chip.specs.declared.Dac.{Dac}
@@ -52,13 +52,13 @@ dac_step x a = ap (λ (s : State). s.dac) (after_state x a)
 pub sets_address : (x : World) (a : Access) → is_aim x a ≡ true → SetsAddress x a (lane_byte 0 a.word)
 unfolding is_aim accepted
 sets_address x a e =
-    let w = and_second (eqb (status_at x a) 0) _ e in
-    let r = and_second (is_write a) _ w in
+    let w = second_so (eqb (status_at x a) 0) _ e in
+    let r = second_so (is_write a) _ w in
     record {
-      accepted = eqb-true (status_at x a) 0 (and_first (eqb (status_at x a) 0) _ e);
-      write = and_first (is_write a) _ w;
-      place = (names (place_of x.state a)).aims (and_first (reach_at (place_of x.state a)).aims (bit 0 a.enables) r);
-      lane = and_second (reach_at (place_of x.state a)).aims (bit 0 a.enables) r;
+      accepted = eqb-true (status_at x a) 0 (first_so (eqb (status_at x a) 0) _ e);
+      write = first_so (is_write a) _ w;
+      place = (names (place_of x.state a)).aims (first_so (reach_at (place_of x.state a)).aims (bit 0 a.enables) r);
+      lane = second_so (reach_at (place_of x.state a)).aims (bit 0 a.enables) r;
       value = refl;
     }
 
@@ -87,7 +87,7 @@ pub data_not_aim : (x : World) (a : Access) → is_data x a ≡ true → is_aim 
 unfolding is_aim reach_at
 data_not_aim x a e =
     let p : place_of x.state a ≡ PaletteData = (names (place_of x.state a)).paints (data_parts x a e).paints in
-    simp (p, and_false)
+    simp (p, and-false)
 
 -- ---- one access moves the position by one, or not at all
 

@@ -1,7 +1,7 @@
 -- Answers: zero where unknown, nothing in lanes that are not enabled, 0 and 0 from a write; and a read alters nothing but the palette's pointer.
 -- From the definition of the answer, refused or not. Assumes nothing.
 use Prim.Native.Nat.{ℕ, ◌/◌, ◌^◌, ◌<◌}
-use mathlib.Core.Bool.{Bool, true, false, ◌&&◌}
+use mathlib.Core.Bool.{Bool, true, false, ◌&&◌, and-false}
 use mathlib.Core.List.{List}
 use mathlib.Core.Option.{Option, none, get_or}
 use mathlib.Core.Path.{◌≡◌, refl, sym, ap, ap₂, ◌∙◌, subst}
@@ -11,7 +11,6 @@ use lib.Dec.{eqb}
 use Rattle.bits.specs.Bit.{bit}
 use Rattle.bits.specs.Word.{inside, lanes_of}
 use Rattle.bits.proofs.Cases.{pick_when}
-use Rattle.bits.proofs.Bools.{and_false}
 use Rattle.bits.proofs.Single.{bit_of_zero}
 use Rattle.bits.proofs.Words.{bit_inside, lane_bit, lanes_lt, inside_le, inside_zero}
 use Rattle.chip.specs.declared.State.{State}
@@ -43,7 +42,7 @@ unfolding step_of given_by
 by_way P x a d r = pick_when P (eqb (status_at x a) 0) _ _ (λ q. d (eqb-true (status_at x a) 0 q)) (λ q. r)
 
 zero_known : (k v : Bool) → k ≡ false → (v && k) ≡ false
-zero_known k v e = ap (λ (t : Bool). v && t) e ∙ and_false v
+zero_known k v e = ap (λ (t : Bool). v && t) e ∙ and-false v
 
 -- a bit that is not known is zero
 pub unknown_zero : (x : World) (a : Access) (b : ℕ) → bit b (step x a).answer.known ≡ false → bit b (step x a).answer.word ≡ false
@@ -107,7 +106,7 @@ unfolding word_of
 still_word s n m k e f j = ap₂ (λ (v : View) (l : List ℕ). view_word v l j) (still_view s n e) (sym f)
 
 not_written : (x : World) (a : Access) → is_write a ≡ false → writes x a ≡ false
-not_written x a w = simp w (and_false (accepted x a))
+not_written x a w = simp w (and-false (accepted x a))
 
 read_state : (x : World) (a : Access) → is_write a ≡ false → StepsOnly x.state (after x a).state
 read_state x a w =

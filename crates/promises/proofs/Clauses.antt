@@ -1,7 +1,7 @@
 -- Refusal 1 in 01's words: a state is one exactly where each of its clauses holds.
 -- Clause by clause; a register's fault word is zero exactly where each of its bits is sound. Assumes nothing.
 use Prim.Native.Nat.{ℕ, ◌+◌, ◌-◌, ◌/◌, ◌%◌, ◌^◌, ◌<◌, ◌≤◌}
-use mathlib.Core.Bool.{Bool, true, false, not, ◌&&◌}
+use mathlib.Core.Bool.{Bool, true, false, not, ◌&&◌, or-true}
 use mathlib.Core.Logic.{◌↔◌, inl, inr}
 use mathlib.Core.Path.{◌≡◌, refl, sym, ap, ap₂, ◌∙◌, subst}
 use native.Mathlib.Omega.{arith}
@@ -11,7 +11,8 @@ use lib.ListN.{get_or}
 use Rattle.bits.specs.Bit.{bit, differs}
 use Rattle.bits.specs.Word.{lane_byte}
 use Rattle.bits.proofs.Cases.{by_test, pick_by}
-use Rattle.bits.proofs.Bools.{and_first, and_second, or_true, or_second, every_at, every_all}
+use Rattle.std.specs.Cmp.{first_so, second_so}
+use Rattle.bits.proofs.Bools.{or_second, every_at, every_all}
 use Rattle.bits.proofs.Single.{bit_of_zero, by_bits}
 use Rattle.bits.proofs.Words.{clear, clear_not, bit_joined}
 use Rattle.bits.proofs.Lanes.{bit_lane, lane_lt, bit_high}
@@ -145,7 +146,7 @@ word_sound w t = by_test (is_stored w) (λ z. inr (flagged_of w z)) (λ z. inl (
 
 sound_word : (w : ℕ) → w < 2 ^ 32 → SoundEntry w → word_ok w ≡ true
 unfolding word_ok
-sound_word w h (inl z) = simp (eq-eqb w 0 z) (or_true (is_stored w))
+sound_word w h (inl z) = simp (eq-eqb w 0 z) (or-true (is_stored w))
 sound_word w h (inr f) = simp (of_flagged w h f)
 
 -- ---- the limits
@@ -153,11 +154,11 @@ sound_word w h (inr f) = simp (of_flagged w h f)
 pub panel_of : (w h : ℕ) → panel_ok w h ≡ true → Panel w h
 unfolding panel_ok
 panel_of w h e =
-    let p = and_first (leb 1 w && leb w 1024) _ e in
-    let q = and_second (leb 1 w && leb w 1024) _ e in
+    let p = first_so (leb 1 w && leb w 1024) _ e in
+    let q = second_so (leb 1 w && leb w 1024) _ e in
     record {
-      wide = (leb-true 1 w (and_first (leb 1 w) _ p), leb-true w 1024 (and_second (leb 1 w) _ p));
-      high = (leb-true 1 h (and_first (leb 1 h) _ q), leb-true h 1024 (and_second (leb 1 h) _ q));
+      wide = (leb-true 1 w (first_so (leb 1 w) _ p), leb-true w 1024 (second_so (leb 1 w) _ p));
+      high = (leb-true 1 h (first_so (leb 1 h) _ q), leb-true h 1024 (second_so (leb 1 h) _ q));
     }
 
 pub of_panel : (w h : ℕ) → Panel w h → panel_ok w h ≡ true
@@ -167,10 +168,10 @@ of_panel w h f = simp (le-leb 1 w f.wide.0, le-leb w 1024 f.wide.1, le-leb 1 h f
 pub memory_of : (n : ℕ) → memory_ok n ≡ true → Memory n
 unfolding memory_ok
 memory_of n e =
-    let m = and_second (eqb (n % 8) 0) _ e in
+    let m = second_so (eqb (n % 8) 0) _ e in
     record {
-      eights = eqb-true (n % 8) 0 (and_first (eqb (n % 8) 0) _ e);
-      bytes = (leb-true 8 n (and_first (leb 8 n) _ m), leb-true n 8388608 (and_second (leb 8 n) _ m));
+      eights = eqb-true (n % 8) 0 (first_so (eqb (n % 8) 0) _ e);
+      bytes = (leb-true 8 n (first_so (leb 8 n) _ m), leb-true n 8388608 (second_so (leb 8 n) _ m));
     }
 
 pub of_memory : (n : ℕ) → Memory n → memory_ok n ≡ true

@@ -4,7 +4,7 @@ use mathlib.Core.Bool.{true, false, not}
 use mathlib.Core.Path.{◌≡◌}
 use borrow.Author.Tests.{not-true}
 use Rattle.bits.specs.Bit.{bit}
-use Rattle.bits.proofs.Bools.{and_first, and_second}
+use Rattle.std.specs.Cmp.{first_so, second_so}
 use Rattle.chip.specs.declared.Access.{Access}
 use Rattle.chip.specs.Access.{is_look}
 use Rattle.chip.specs.Place.{place_of}
@@ -22,11 +22,11 @@ pub record DataParts (x : World) (a : Access) : Type 0 where
 pub data_parts : (x : World) (a : Access) → is_data x a ≡ true → DataParts x a
 unfolding is_data
 data_parts x a e =
-    let u = and_second (accepted x a) _ e in
-    let v = and_second (not (is_look a)) _ u in
+    let u = second_so (accepted x a) _ e in
+    let v = second_so (not (is_look a)) _ u in
     record {
-      accepted = and_first (accepted x a) _ e;
-      steps = not-true (is_look a) (and_first (not (is_look a)) _ u);
-      paints = and_first (reach_at (place_of x.state a)).paints _ v;
-      lane = and_second (reach_at (place_of x.state a)).paints _ v;
+      accepted = first_so (accepted x a) _ e;
+      steps = not-true (is_look a) (first_so (not (is_look a)) _ u);
+      paints = first_so (reach_at (place_of x.state a)).paints _ v;
+      lane = second_so (reach_at (place_of x.state a)).paints _ v;
     }

@@ -15,8 +15,10 @@ use Rattle.bits.specs.Choose.{pick, every_to}
 use Rattle.bits.specs.Bit.{bit}
 use Rattle.bits.specs.Word.{inside}
 use Rattle.bits.proofs.Cases.{by_test}
-use Rattle.bits.proofs.Bools.{and_first, and_second, every_at, clash}
-use Rattle.bits.proofs.Single.{by_bits, bit_not, bit_of_zero}
+use Rattle.std.specs.Cmp.{first_so, second_so}
+use Rattle.bits.proofs.Bools.{every_at, clash}
+use Rattle.std.proofs.lemmas.Nat.Bits.{bit_at_ones}
+use Rattle.bits.proofs.Single.{by_bits}
 use Rattle.bits.proofs.Words.{beq_true}
 use Rattle.bits.proofs.Lanes.{bit_low, by_lane}
 use Rattle.chip.specs.declared.State.{State}
@@ -53,14 +55,14 @@ module _ (s : State) where
   unfolding not_indexed
   indexed_of e =
       let t = sym (mode_bits mode) ∙ not-false (eqb (mode % 32) 0x10) e in
-      let u = and_second (not (bit 0 mode)) _ t in
-      let v = and_second (not (bit 1 mode)) _ u in
-      let w = and_second (not (bit 2 mode)) _ v in
+      let u = second_so (not (bit 0 mode)) _ t in
+      let v = second_so (not (bit 1 mode)) _ u in
+      let w = second_so (not (bit 2 mode)) _ v in
       record {
         format =
-            by_lane (λ (b : ℕ). bit b mode ≡ false) (not-true (bit 0 mode) (and_first (not (bit 0 mode)) _ t)) (not-true (bit 1 mode) (and_first (not (bit 1 mode)) _ u))
-            (not-true (bit 2 mode) (and_first (not (bit 2 mode)) _ v)) (not-true (bit 3 mode) (and_first (not (bit 3 mode)) _ w));
-        gui = and_second (not (bit 3 mode)) _ w;
+            by_lane (λ (b : ℕ). bit b mode ≡ false) (not-true (bit 0 mode) (first_so (not (bit 0 mode)) _ t)) (not-true (bit 1 mode) (first_so (not (bit 1 mode)) _ u))
+            (not-true (bit 2 mode) (first_so (not (bit 2 mode)) _ v)) (not-true (bit 3 mode) (first_so (not (bit 3 mode)) _ w));
+        gui = second_so (not (bit 3 mode)) _ w;
       }
 
   of_indexed : Indexed s → not_indexed s.values ≡ false
@@ -74,8 +76,9 @@ module _ (s : State) where
 mask_test : ℕ → ℕ → ℕ → Bool
 mask_test w j b = beq (bit b w) (ltb b j)
 
-ones : (j b : ℕ) → b < j → 0 < 2 ^ j → bit b (2 ^ j - 1) ≡ true
-ones j b h z = ap (bit b) (let e : 2 ^ j - 1 ≡ 2 ^ j - 1 - 0 = omega arith in e) ∙ bit_not j b 0 h z ∙ ap not (bit_of_zero b)
+ones : (j b : ℕ) → b < j → bit b (2 ^ j - 1) ≡ true
+unfolding bit
+ones j b h = ap (λ (n : ℕ). eqb n 1) (bit_at_ones j b h)
 
 module _ (j : ℕ) (hj : j ≤ 32) (z : 0 < 2 ^ j) (s : State) (i : ℕ) (masked : every_to (mask_test (bank_row i).writable j) 32 ≡ true) where
   masks : (b : ℕ) → b < 32 → bit b (bank_row i).writable ≡ ltb b j
@@ -85,12 +88,12 @@ module _ (j : ℕ) (hj : j ≤ 32) (z : 0 < 2 ^ j) (s : State) (i : ℕ) (masked
   known_of : get_or s.knowns i 0 % 2 ^ j ≡ 2 ^ j - 1 → Known s i
   known_of e b h t =
       let l = ltb-true b j (sym (masks b h) ∙ t) in
-      sym (bit_low j b (get_or s.knowns i 0) l) ∙ ap (bit b) e ∙ ones j b l z
+      sym (bit_low j b (get_or s.knowns i 0) l) ∙ ap (bit b) e ∙ ones j b l
 
   of_known : Known s i → get_or s.knowns i 0 % 2 ^ j ≡ 2 ^ j - 1
   of_known f =
       by_bits j _ _ (mod-lt _ z) (omega arith)
-      (λ b h. bit_low j b (get_or s.knowns i 0) h ∙ f b (omega arith) (masks b (omega arith) ∙ lt-ltb b j h) ∙ sym (ones j b h z))
+      (λ b h. bit_low j b (get_or s.knowns i 0) h ∙ f b (omega arith) (masks b (omega arith) ∙ lt-ltb b j h) ∙ sym (ones j b h))
 
 base_mask : every_to (mask_test (bank_row screen_base).writable 20) 32 ≡ true
 unfolding mask_test computed
@@ -108,11 +111,11 @@ placed_of : (s : State) → unplaced s.knowns ≡ false → Placed s
 unfolding unplaced
 placed_of s e =
     let t = not-false (eqb (get_or s.knowns screen_base 0 % 0x100000) 0xFFFFF && (eqb (get_or s.knowns screen_stride 0 % 0x100000) 0xFFFFF && eqb (get_or s.knowns pixel_mask 0 % 256) 0xFF)) e in
-    let u = and_second (eqb (get_or s.knowns screen_base 0 % 0x100000) 0xFFFFF) _ t in
+    let u = second_so (eqb (get_or s.knowns screen_base 0 % 0x100000) 0xFFFFF) _ t in
     record {
-      base = known_of 20 (omega arith) (omega arith) s screen_base base_mask (eqb-true _ 0xFFFFF (and_first _ _ t));
-      stride = known_of 20 (omega arith) (omega arith) s screen_stride stride_mask (eqb-true _ 0xFFFFF (and_first _ _ u));
-      mask = known_of 8 (omega arith) (omega arith) s pixel_mask pixel_mask_lem (eqb-true _ 0xFF (and_second (eqb (get_or s.knowns screen_stride 0 % 0x100000) 0xFFFFF) _ u));
+      base = known_of 20 (omega arith) (omega arith) s screen_base base_mask (eqb-true _ 0xFFFFF (first_so _ _ t));
+      stride = known_of 20 (omega arith) (omega arith) s screen_stride stride_mask (eqb-true _ 0xFFFFF (first_so _ _ u));
+      mask = known_of 8 (omega arith) (omega arith) s pixel_mask pixel_mask_lem (eqb-true _ 0xFF (second_so (eqb (get_or s.knowns screen_stride 0 % 0x100000) 0xFFFFF) _ u));
     }
 
 of_placed : (s : State) → Placed s → unplaced s.knowns ≡ false

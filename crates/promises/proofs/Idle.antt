@@ -1,7 +1,7 @@
 -- An access that stores nothing alters nothing: state, memory and picture are as before, and no dot is counted.
 -- What is stored is zero bits of a row, and nothing else; then each part of the state is as it was, and the picture is drawn from the same. Assumes nothing.
 use Prim.Native.Nat.{ℕ, zero, suc, ◌^◌, ◌<◌}
-use mathlib.Core.Bool.{true, false}
+use mathlib.Core.Bool.{true, false, and-false, or-false}
 use mathlib.Core.List.{List, [], ◌∷◌}
 use mathlib.Core.Option.{Option, none, some}
 use mathlib.Core.Path.{◌≡◌, refl, sym, ap, ◌∙◌, subst}
@@ -11,7 +11,6 @@ use lib.ListN.{get_or, set}
 use Rattle.bits.specs.Bit.{bit}
 use Rattle.bits.specs.Word.{joined, merged, lanes_of}
 use Rattle.bits.proofs.Cases.{pick_when}
-use Rattle.bits.proofs.Bools.{and_false, or_false}
 use Rattle.bits.proofs.Single.{bit_of_zero, by_bits, no_bits}
 use Rattle.bits.proofs.Words.{bit_inside, bit_joined, bit_merged, inside_lt_left, joined_lt, lanes_lt}
 use Rattle.chip.specs.declared.State.{State}
@@ -45,7 +44,7 @@ merged_zero : (v w : ℕ) → v < 2 ^ 32 → merged v w 0 ≡ v
 merged_zero v w h = by_bits 32 _ _ (merged_lt v w 0 (omega arith)) h (λ b hb. bit_merged b v w 0 hb (omega arith) ∙ simp (bit_of_zero b))
 
 joined_none : (v : ℕ) → v < 2 ^ 32 → joined v 0 ≡ v
-joined_none v h = by_bits 32 _ _ (joined_lt v 0 h (omega arith)) h (λ b hb. bit_joined b v 0 ∙ simp (bit_of_zero b) (or_false (bit b v)))
+joined_none v h = by_bits 32 _ _ (joined_lt v 0 h (omega arith)) h (λ b hb. bit_joined b v 0 ∙ simp (bit_of_zero b) (or-false (bit b v)))
 
 set_same : (l : List ℕ) (i : ℕ) → set l i (get_or l i 0) ≡ l
 set_same [] i = refl
@@ -63,7 +62,7 @@ vain_stored : (i : ℕ) → eqb i subsystem ≡ false → (bank_row i).writable 
 unfolding stored_bits moved_bits
 vain_stored i s v c once e w =
     simp (s, v, c)
-    (no_bits 32 _ (inside_lt_left _ _ (lanes_lt e)) (λ b hb. simp (bit_inside, bit_joined, bit_of_zero b) (and_false (bit b (lanes_of e)))))
+    (no_bits 32 _ (inside_lt_left _ _ (lanes_lt e)) (λ b hb. simp (bit_inside, bit_joined, bit_of_zero b) (and-false (bit b (lanes_of e)))))
 
 vain_fixed : (i : ℕ) → eqb i subsystem ≡ false → (once e : ℕ) → fixed_by once i e ≡ none
 unfolding fixed_by
@@ -109,7 +108,7 @@ module _ (x : World) (a : Access) (h : Words x.state) (n : StoresNone x a) where
       ∙ pick_when (λ (o : Option Store). learned o x.state.knowns ≡ x.state.knowns) (writes x a) _ none (keeps_knowns _ refl) (λ w. refl))
       (z.once ∙ pick_when (λ (o : Option ℕ). o ≡ none) (writes x a) _ none (fixes_none _ refl) (λ w. refl))
       (z.dac ∙ simp (n.aim, n.paint))
-      (z.paint ∙ simp (n.paint, and_false))
+      (z.paint ∙ simp (n.paint, and-false))
 
   same_memory : (after x a).memory ≡ x.memory
   unfolding memory_with
@@ -150,8 +149,8 @@ module _ (x : World) (a : Access) (h : Words x.state) (w : is_write a ≡ true) 
       (record {
         bits = λ i q w. absurd_put none i refl (sym (ap (λ (p : Place). (reach_at p).row) e) ∙ q);
         flags = λ i q w. absurd_put none i refl (sym (ap (λ (p : Place). (reach_at p).row) e) ∙ q);
-        aim = simp (e, and_false);
-        paint = simp (e, and_false);
+        aim = simp (e, and-false);
+        paint = simp (e, and-false);
         bytes = λ w. ap (λ (p : Place). (reach_at p).window) e;
       })
 
@@ -162,8 +161,8 @@ module _ (x : World) (a : Access) (h : Words x.state) (w : is_write a ≡ true) 
       (record {
         bits = λ j q w. subst (λ (k : ℕ). stored_bits x.state.once k a.enables a.word ≡ 0) (row_is j q) vain_bits;
         flags = λ j q w. subst (λ (k : ℕ). fixed_by x.state.once k a.enables ≡ none) (row_is j q) vain_flags;
-        aim = simp (e, and_false);
-        paint = simp (e, and_false);
+        aim = simp (e, and-false);
+        paint = simp (e, and-false);
         bytes = λ w. ap (λ (p : Place). (reach_at p).window) e;
       })
     where

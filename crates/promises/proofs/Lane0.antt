@@ -1,7 +1,7 @@
 -- Without lane 0 a RAMDAC access that is not refused alters nothing, and answers word 0 and known 0.
 -- The RAMDAC's registers have eight bits that a write may change or that are known, all of lane 0; the address and palette data ask for lane 0. Assumes nothing.
 use Prim.Native.Nat.{ℕ, ◌/◌, ◌≤◌, ◌<◌}
-use mathlib.Core.Bool.{Bool, true, false, not, ◌&&◌}
+use mathlib.Core.Bool.{Bool, true, false, not, ◌&&◌, and-false, or-false}
 use mathlib.Core.Option.{Option, none, some}
 use mathlib.Core.Path.{◌≡◌, refl, ◌∙◌}
 use native.Mathlib.Omega.{arith}
@@ -12,7 +12,8 @@ use Rattle.bits.specs.Choose.{pick, every_to}
 use Rattle.bits.specs.Bit.{bit}
 use Rattle.bits.specs.Word.{lanes_of}
 use Rattle.bits.proofs.Cases.{by_test}
-use Rattle.bits.proofs.Bools.{and_false, and_first, and_second, or_false, every_at}
+use Rattle.std.specs.Cmp.{first_so, second_so}
+use Rattle.bits.proofs.Bools.{every_at}
 use Rattle.bits.proofs.Single.{bit_of_zero, no_bits}
 use Rattle.bits.proofs.Words.{bit_inside, bit_joined, inside_le, inside_lt_left, lane_bit, lanes_lt}
 use Rattle.bits.proofs.Lanes.{bit_high}
@@ -67,14 +68,14 @@ of_byte : (i : ℕ) → i < bank_count → dac_row i ≡ true → OfByte i
 unfolding eight_bits_lem
 of_byte i h d =
     let t = simp d at (every_at eight_bits_lem bank_count i all_eight h) in
-    let u = and_second (ltb (bank_row i).writable 256) _ t in
-    let v = and_second (eqb (bank_row i).clears 0) _ u in
+    let u = second_so (ltb (bank_row i).writable 256) _ t in
+    let v = second_so (eqb (bank_row i).clears 0) _ u in
     record {
       there = h;
-      writable = ltb-true _ 256 (and_first (ltb (bank_row i).writable 256) _ t);
-      clears = eqb-true _ 0 (and_first (eqb (bank_row i).clears 0) _ u);
-      known = ltb-true _ 256 (and_first (ltb (bank_row i).known 256) _ v);
-      plain = not-true (eqb i subsystem) (and_second (ltb (bank_row i).known 256) _ v);
+      writable = ltb-true _ 256 (first_so (ltb (bank_row i).writable 256) _ t);
+      clears = eqb-true _ 0 (first_so (eqb (bank_row i).clears 0) _ u);
+      known = ltb-true _ 256 (first_so (ltb (bank_row i).known 256) _ v);
+      plain = not-true (eqb i subsystem) (second_so (ltb (bank_row i).known 256) _ v);
     }
 
 module _ (s : State) (a : Access) (t : a.target ≡ 0) (f : 0x4000 ≤ a.offset) where
@@ -110,7 +111,7 @@ outside_lane e b v l he hb hv =
     let z = ltb-true b 8 q in
     let k : b / 8 ≡ 0 = omega arith in
     simp (lane_bit b e hb he, k, l))
-    (λ q. simp (bit_high 8 b v (ltb-false b 8 q) hv) (and_false (bit b (lanes_of e))))
+    (λ q. simp (bit_high 8 b v (ltb-false b 8 q) hv) (and-false (bit b (lanes_of e))))
 
 module _ (i : ℕ) (r : OfByte i) (e word : ℕ) (l : bit 0 e ≡ false) (he : e < 16) where
   none_moved : (once : ℕ) → stored_bits once i e word ≡ 0
@@ -118,17 +119,17 @@ module _ (i : ℕ) (r : OfByte i) (e word : ℕ) (l : bit 0 e ≡ false) (he : e
   none_moved once =
       simp r.plain
       (no_bits 32 _ (inside_lt_left _ _ (lanes_lt e)) (λ b hb.
-      simp (bit_inside, bit_joined, r.clears, bit_of_zero b, or_false)
+      simp (bit_inside, bit_joined, r.clears, bit_of_zero b, or-false)
       (outside_lane e b (bank_row i).writable l he hb r.writable)))
 
 module _ (x : World) (a : Access) (h : Words x.state) (t : a.target ≡ 0) (f : 0x4000 ≤ a.offset) (d : status_at x a ≡ 0) (l : bit 0 a.enables ≡ false) where
   aim_off : is_aim x a ≡ false
   unfolding is_aim
-  aim_off = simp (l, and_false)
+  aim_off = simp (l, and-false)
 
   data_off : is_data x a ≡ false
   unfolding is_data
-  data_off = simp (l, and_false)
+  data_off = simp (l, and-false)
 
   row_of : (i : ℕ) → (reach_at (place_of x.state a)).row ≡ some i → OfByte i
   row_of i e = ramdac_row x.state a t f i ((names (place_of x.state a)).row i e)
@@ -189,7 +190,7 @@ module _ (x : World) (a : Access) (h : Words x.state) (t : a.target ≡ 0) (f : 
             (λ q.
             let z = ltb-true b 8 q in
             let k : b / 8 ≡ 0 = omega arith in
-            simp (lane_bit b a.enables hb (enables_lt x.state _ _ a d), k, l) (and_false (bit b (sees x a).known)))
+            simp (lane_bit b a.enables hb (enables_lt x.state _ _ a d), k, l) (and-false (bit b (sees x a).known)))
             (λ q. simp (high_at (place_of x.state a) refl b (ltb-false b 8 q) hb))
 
     nothing_shown : (step x a).answer.word ≡ 0

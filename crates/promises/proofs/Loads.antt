@@ -13,7 +13,8 @@ use lib.Dec.{eqb, ltb}
 use Rattle.bits.specs.Choose.{pick}
 use Rattle.bits.specs.Word.{lane_byte}
 use Rattle.bits.proofs.Cases.{by_test}
-use Rattle.bits.proofs.Bools.{and_first, and_second, and_both}
+use Rattle.std.specs.Cmp.{first_so, second_so}
+use Rattle.std.proofs.lemmas.Bool.{and_from}
 use Rattle.chip.specs.declared.Access.{Access}
 use Rattle.chip.specs.declared.Dac.{Dac}
 use Rattle.chip.specs.declared.Colour.{Colour}
@@ -57,8 +58,8 @@ completes d v x q =
     let f : record { entry = d.address; colour = record { red = d.red; green = d.green; blue = v } } ≡ x = some_is (simp t at q) in
     record {
       entry = ap (λ (y : Paint). y.entry) f;
-      component = eqb-true d.component 2 (and_first (eqb d.component 2) (eqb d.staged 2) t);
-      staged = eqb-true d.staged 2 (and_second (eqb d.component 2) (eqb d.staged 2) t);
+      component = eqb-true d.component 2 (first_so (eqb d.component 2) (eqb d.staged 2) t);
+      staged = eqb-true d.staged 2 (second_so (eqb d.component 2) (eqb d.staged 2) t);
       red = ap (λ (y : Paint). y.colour.red) f;
       green = ap (λ (y : Paint). y.colour.green) f;
       blue = ap (λ (y : Paint). y.colour.blue) f;
@@ -106,11 +107,11 @@ greens d v q =
     (λ t. let e : (advanced d 1 v 0).staged ≡ 2 = simp t at q in absurd (omega (arith, advanced_staged d 1 v 0)))
     (λ t. by_test (eqb d.component 1 && eqb d.staged 1)
     (λ u.
-    let c : d.component ≡ 1 = eqb-true d.component 1 (and_first _ _ u) in
+    let c : d.component ≡ 1 = eqb-true d.component 1 (first_so _ _ u) in
     simp (t, u)
     (record {
       component = c;
-      staged = eqb-true d.staged 1 (and_second (eqb d.component 1) (eqb d.staged 1) u);
+      staged = eqb-true d.staged 1 (second_so (eqb d.component 1) (eqb d.staged 1) u);
       red = advanced_red d 2 d.red v;
       green = advanced_green d 2 d.red v;
       address = advanced_same d 2 d.red v (omega arith);
@@ -173,7 +174,7 @@ puts_is x a e c q =
     sym (does x a).paint ∙ painted_is e (patch_at x a).paint c q in
     by_test (is_write a && is_data x a)
     (λ t. record {
-      wrote = writes_part x a (and_first (is_write a) (is_data x a) t) (and_second (is_write a) (is_data x a) t);
+      wrote = writes_part x a (first_so (is_write a) (is_data x a) t) (second_so (is_write a) (is_data x a) t);
       completed = completes x.state.dac (kept_from x.state a) (record { entry = e; colour = c }) (simp t at p);
     })
     (λ t. never (simp t at p))
@@ -230,7 +231,7 @@ silent_calm : (x : World) (l : List Access) → last_put after dac_put x l ≡ n
 silent_calm x [] e = refl
 silent_calm x (a ∷ l) e =
     let n = later_none (last_put after dac_put (after x a) l) (dac_put x a) e in
-    and_both (not (disturbs x a)) (calm (after x a) l) (ap not (quiet_calm x a n.1)) (silent_calm (after x a) l n.0)
+    and_from (not (disturbs x a)) (calm (after x a) l) (ap not (quiet_calm x a n.1)) (silent_calm (after x a) l n.0)
 
 -- ---- forth: what stores an entry completes a load
 
@@ -321,7 +322,7 @@ part_dac y b e c v p =
 calm_dac : (x : World) (l : List Access) → calm x l ≡ true → (run x l).state.dac ≡ x.state.dac
 calm_dac x [] e = refl
 calm_dac x (a ∷ l) e =
-    calm_dac (after x a) l (and_second (not (disturbs x a)) _ e) ∙ calm_after x a (not-true (disturbs x a) (and_first (not (disturbs x a)) _ e))
+    calm_dac (after x a) l (second_so (not (disturbs x a)) _ e) ∙ calm_after x a (not-true (disturbs x a) (first_so (not (disturbs x a)) _ e))
 
 pub load_puts : (x : World) (l : List Access) (a : Access) (e : ℕ) (c : Colour) → Load x l a e c → entry_put e (run x l) a ≡ some (some c)
 unfolding puts_entry

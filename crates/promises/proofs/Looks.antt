@@ -6,7 +6,7 @@ use mathlib.Core.List.{List, [], ◌∷◌, ◌++◌}
 use mathlib.Core.Path.{◌≡◌, refl, sym, ap, ap₂, ◌∙◌, subst}
 use lib.Dec.{eqb}
 use Rattle.bits.specs.Choose.{pick, every_in}
-use Rattle.bits.proofs.Bools.{and_first, and_second}
+use Rattle.std.specs.Cmp.{first_so, second_so}
 use Rattle.bits.proofs.Cases.{by_test, pick_same}
 use Rattle.chip.specs.declared.State.{State}
 use Rattle.chip.specs.declared.Access.{Access}
@@ -177,7 +177,7 @@ answers_append x (a ∷ k) l = ap (λ (r : List Answer). (step x a).answer ∷ r
 pub looks_leave : (x : World) (n : List Access) → every_in is_look n ≡ true → run x n ≡ x
 looks_leave x [] e = refl
 looks_leave x (a ∷ n) e =
-    looks_leave (after x a) n (and_second (is_look a) _ e) ∙ look_leaves x a (and_first (is_look a) _ e)
+    looks_leave (after x a) n (second_so (is_look a) _ e) ∙ look_leaves x a (first_so (is_look a) _ e)
 
 pub runs_alike : (x : World) (l : List Access) → run x l ≡ run x (unlooked l)
 runs_alike x [] = refl

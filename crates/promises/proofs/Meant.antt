@@ -1,13 +1,14 @@
 -- What moves a bit, and what disturbs a load, line by line: an accepted access that leads there.
 -- By taking the tests apart and putting them together. Assumes nothing.
 use Prim.Native.Nat.{ℕ}
-use mathlib.Core.Bool.{true, false, ◌&&◌}
+use mathlib.Core.Bool.{true, false, ◌&&◌, and-false}
 use mathlib.Core.Logic.{◌↔◌, ◌⊎◌, inl, inr}
 use mathlib.Core.Option.{Option, none, some}
 use mathlib.Core.Path.{◌≡◌, refl, ap}
 use borrow.Author.Tests.{eqb-true, eq-eqb}
 use Rattle.bits.proofs.Cases.{by_test}
-use Rattle.bits.proofs.Bools.{and_first, and_second, clash, and_false}
+use Rattle.std.specs.Cmp.{first_so, second_so}
+use Rattle.bits.proofs.Bools.{clash}
 use Rattle.chip.specs.declared.Access.{Access}
 use Rattle.chip.specs.declared.Kind.TheVariants.{Write, Look}
 use Rattle.chip.specs.declared.Place.TheVariants.{Register, Address, PaletteData}
@@ -43,15 +44,15 @@ module _ (x : World) (a : Access) where
   moved : (q : Spot) → moves x a q ≡ true → Moves x a q
   unfolding moves writes_row
   moved q e =
-      let w = and_first ((accepted x a && is_write a) && is_row (reach_at (place_of x.state a)).row q.row) _ e in
-      let u = and_first (accepted x a && is_write a) _ w in
+      let w = first_so ((accepted x a && is_write a) && is_row (reach_at (place_of x.state a)).row q.row) _ e in
+      let u = first_so (accepted x a && is_write a) _ w in
       record {
-        accepted = done (and_first (accepted x a) _ u);
-        write = is_write_lem a (and_second (accepted x a) _ u);
+        accepted = done (first_so (accepted x a) _ u);
+        write = is_write_lem a (second_so (accepted x a) _ u);
         place =
             leads_register x.state a q.row
-            ((names (place_of x.state a)).row q.row (row_is (reach_at (place_of x.state a)).row q.row (and_second (accepted x a && is_write a) _ w)));
-        reached = and_second ((accepted x a && is_write a) && is_row (reach_at (place_of x.state a)).row q.row) _ e;
+            ((names (place_of x.state a)).row q.row (row_is (reach_at (place_of x.state a)).row q.row (second_so (accepted x a && is_write a) _ w)));
+        reached = second_so ((accepted x a && is_write a) && is_row (reach_at (place_of x.state a)).row q.row) _ e;
       }
 
   moves_by : (q : Spot) → Moves x a q → moves x a q ≡ true
@@ -75,14 +76,14 @@ module _ (x : World) (a : Access) where
   by_aim : is_aim x a ≡ true → Disturbs x a
   unfolding is_aim
   by_aim e =
-      let u = and_second (accepted x a) _ e in
-      let v = and_second (is_write a) _ u in
+      let u = second_so (accepted x a) _ e in
+      let v = second_so (is_write a) _ u in
       record {
-        accepted = done (and_first (accepted x a) _ e);
-        lane = and_second (reach_at (place_of x.state a)).aims _ v;
+        accepted = done (first_so (accepted x a) _ e);
+        lane = second_so (reach_at (place_of x.state a)).aims _ v;
         by = inr (
-          is_write_lem a (and_first (is_write a) _ u),
-          leads_address x.state a ((names (place_of x.state a)).aims (and_first (reach_at (place_of x.state a)).aims _ v)),
+          is_write_lem a (first_so (is_write a) _ u),
+          leads_address x.state a ((names (place_of x.state a)).aims (first_so (reach_at (place_of x.state a)).aims _ v)),
         );
       }
 
@@ -96,7 +97,7 @@ module _ (x : World) (a : Access) where
     where
       go : ((a.kind ≡ Look → ⊥) × Leads x.state a PaletteData) ⊎ ((a.kind ≡ Write) × Leads x.state a Address) → disturbs x a ≡ true
       go (inl d) = simp (is_done f.accepted, no_look_is a d.0, leads_place x.state a PaletteData d.1, f.lane)
-      go (inr d) = simp (is_done f.accepted, write_is a d.0, and_false, leads_place x.state a Address d.1, f.lane)
+      go (inr d) = simp (is_done f.accepted, write_is a d.0, and-false, leads_place x.state a Address d.1, f.lane)
 
   pub disturbs_meant : (disturbs x a ≡ true) ↔ Disturbs x a
   disturbs_meant = (disturbed, disturbs_by)

@@ -1,7 +1,7 @@
 -- What an access makes of a register's bit: an accepted write that moves it brings the word's bit, or zero where a one clears; any other leaves it.
 -- What a write stores, bit by bit, is what Frame says that it moves; the halves of the subsystem numbers by one computed test. Assumes nothing.
 use Prim.Native.Nat.{ℕ, ◌+◌, ◌*◌, ◌/◌, ◌^◌, ◌<◌}
-use mathlib.Core.Bool.{Bool, true, false, not, ◌&&◌, ◌||◌, beq}
+use mathlib.Core.Bool.{Bool, true, false, not, ◌&&◌, ◌||◌, beq, or-false}
 use mathlib.Core.Option.{Option, none, some, get_or}
 use mathlib.Core.Path.{◌≡◌, refl, sym, ap, ap₂, ◌∙◌}
 use native.Mathlib.Omega.{arith}
@@ -12,7 +12,8 @@ use Rattle.bits.specs.Choose.{pick, every_to}
 use Rattle.bits.specs.Bit.{bit}
 use Rattle.bits.specs.Word.{joined}
 use Rattle.bits.proofs.Cases.{by_test}
-use Rattle.bits.proofs.Bools.{and_first, or_false, every_at}
+use Rattle.std.specs.Cmp.{first_so}
+use Rattle.bits.proofs.Bools.{every_at}
 use Rattle.bits.proofs.Words.{clear_not, bit_inside, bit_joined, bit_outside, lane_bit, beq_true}
 use Rattle.chip.specs.declared.State.{State}
 use Rattle.chip.specs.declared.Access.{Access}
@@ -119,7 +120,7 @@ bit_told x a q g h =
     ∙ by_test (writes x a)
     (λ t. simp t
     (row_told x.state a (reach_at (place_of x.state a)).row q h (once_lt_four x.state (sane x.state g.state))
-    (enables_lt x.state _ _ a (done x a (and_first (accepted x a) (is_write a) t)))))
+    (enables_lt x.state _ _ a (done x a (first_so (accepted x a) (is_write a) t)))))
     (λ t. simp t (no_store q))
 
 -- ---- a bit after an access
@@ -136,11 +137,11 @@ same_bit x a q g h e = same_step q h x a g (bit_told x a q g h ∙ ap (λ (t : B
 row_fixes : (s : State) (a : Access) (i : Option ℕ) (n : ℕ) → a.enables < 16 → n < 2
     → bit n (get_or (once_from s a i) s.once) ≡ (bit n s.once || (is_row i subsystem && (bit (2 * n) a.enables && bit (2 * n + 1) a.enables)))
 unfolding row_patch fixed_by once_after
-row_fixes s a none n he hn = sym (or_false (bit n s.once))
+row_fixes s a none n he hn = sym (or-false (bit n s.once))
 row_fixes s a (some i) n he hn =
     by_test (eqb i subsystem)
     (λ t. simp t (bit_joined n s.once (halves_of a.enables) ∙ ap (λ (u : Bool). bit n s.once || u) (half_enabled a.enables n he hn)))
-    (λ t. simp t (sym (or_false (bit n s.once))))
+    (λ t. simp t (sym (or-false (bit n s.once))))
 
 pub flag_step : (x : World) (a : Access) (n : ℕ) → n < 2 → bit n (after x a).state.once ≡ (bit n x.state.once || fixes x a n)
 unfolding applied fixes writes_row
@@ -149,5 +150,5 @@ flag_step x a n hn =
     ∙ ap (λ (o : Option ℕ). bit n (get_or o x.state.once)) (does x a).once
     ∙ by_test (writes x a)
     (λ t. simp t
-    (row_fixes x.state a (reach_at (place_of x.state a)).row n (enables_lt x.state _ _ a (done x a (and_first (accepted x a) (is_write a) t))) hn))
-    (λ t. simp t (sym (or_false (bit n x.state.once))))
+    (row_fixes x.state a (reach_at (place_of x.state a)).row n (enables_lt x.state _ _ a (done x a (first_so (accepted x a) (is_write a) t))) hn))
+    (λ t. simp t (sym (or-false (bit n x.state.once))))

@@ -9,7 +9,7 @@ use borrow.Author.Tests.{eqb-true, eq-eqb, ne_eqb, ltb-true, ltb-false}
 use lib.Dec.{eqb, ltb}
 use Rattle.bits.specs.Choose.{pick}
 use Rattle.bits.specs.Word.{lane_byte}
-use Rattle.bits.proofs.Bools.{and_first, and_second}
+use Rattle.std.specs.Cmp.{first_so, second_so}
 use Rattle.bits.proofs.Cases.{by_test, pick_by}
 use Rattle.chip.specs.declared.Access.{Access}
 use Rattle.chip.specs.declared.Colour.{Colour}
@@ -94,7 +94,7 @@ painted_stages d v =
     record {
       red = λ e. simp (eq-eqb d.component 0 e) (advanced_stage d 1 v 0);
       green = λ e s. simp (e, s) (advanced_stage d 2 d.red v);
-      drops = λ n m. drop n (by_test (eqb d.component 1 && eqb d.staged 1) (λ q. absurd (m (eqb-true _ 1 (and_first (eqb d.component 1) _ q)) (eqb-true _ 1 (and_second (eqb d.component 1) _ q)))) (λ q. q));
+      drops = λ n m. drop n (by_test (eqb d.component 1 && eqb d.staged 1) (λ q. absurd (m (eqb-true _ 1 (first_so (eqb d.component 1) _ q)) (eqb-true _ 1 (second_so (eqb d.component 1) _ q)))) (λ q. q));
     }
   where
     drop : (d.component ≡ 0 → ⊥) → (eqb d.component 1 && eqb d.staged 1) ≡ false → Unstaged (after_paint d v)

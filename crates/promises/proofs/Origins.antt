@@ -10,7 +10,7 @@ use lib.ListN.{get_or, length}
 use Rattle.bits.specs.Choose.{pick}
 use Rattle.bits.specs.Bit.{bit}
 use Rattle.bits.proofs.Cases.{by_test}
-use Rattle.bits.proofs.Bools.{and_first, and_second}
+use Rattle.std.specs.Cmp.{first_so, second_so}
 use Rattle.bits.proofs.Lists.{zeros_at}
 use Rattle.chip.specs.declared.State.{State}
 use Rattle.chip.specs.declared.Access.{Access}
@@ -90,8 +90,8 @@ puts_pokes y a k v e =
     (λ t.
     let z = window_pokes y.state a (reach_at (place_of y.state a)).window k v (simp t at e) in
     record {
-      accepted = done y a (and_first (accepted y a) (is_write a) t);
-      write = and_second (accepted y a) (is_write a) t;
+      accepted = done y a (first_so (accepted y a) (is_write a) t);
+      write = second_so (accepted y a) (is_write a) t;
       window = z.window;
       through = (names (place_of y.state a)).window z.window z.through;
       put = z.put;

@@ -2,7 +2,7 @@
 -- Of an entry's four bytes and of its word refusal 1 says the same, and where it passes both hold the same colour: so refusals, what is seen and what is drawn are the same; and a stored entry is alike again.
 -- Assumes nothing.
 use Prim.Native.Nat.{ℕ, ◌/◌, ◌<◌}
-use mathlib.Core.Bool.{Bool, true, not, ◌&&◌}
+use mathlib.Core.Bool.{Bool, true, not, ◌&&◌, or-false}
 use mathlib.Core.List.{List, ◌∷◌}
 use mathlib.Core.Option
 use mathlib.Core.Option.{Option, none, some}
@@ -13,7 +13,9 @@ use lib.Dec.{eqb, ltb}
 use lib.ListN.{get_or, set, length, length-set, replicate, length-replicate, get_or-eq_default}
 use Rattle.bits.specs.Choose.{pick}
 use Rattle.bits.proofs.Cases.{by_test}
-use Rattle.bits.proofs.Bools.{and_first, and_second, or_false, and_both, every_at}
+use Rattle.std.specs.Cmp.{first_so, second_so}
+use Rattle.std.proofs.lemmas.Bool.{and_from}
+use Rattle.bits.proofs.Bools.{every_at}
 use Rattle.bits.proofs.Gathers.{every_same}
 use Rattle.bits.proofs.Lists.{get_d_set, set_lt, zeros_at}
 use Rattle.chip.specs.declared.State.{State}
@@ -66,13 +68,13 @@ module _ (f r g b w : ℕ) (h : Entry f r g b w) where
   unflagged : f ≡ 0 → eqb w 0 ≡ (eqb r 0 && (eqb g 0 && eqb b 0))
   unflagged z =
       by_test (eqb w 0)
-      (λ t. let y = zero_parts (eqb-true w 0 t) in t ∙ sym (and_both (eqb r 0) _ (eq-eqb r 0 y.1) (and_both (eqb g 0) (eqb b 0) (eq-eqb g 0 y.2) (eq-eqb b 0 y.3))))
+      (λ t. let y = zero_parts (eqb-true w 0 t) in t ∙ sym (and_from (eqb r 0) _ (eq-eqb r 0 y.1) (and_from (eqb g 0) (eqb b 0) (eq-eqb g 0 y.2) (eq-eqb b 0 y.3))))
       (λ t. by_test (eqb r 0 && (eqb g 0 && eqb b 0))
       (λ u.
-      let v = and_second (eqb r 0) _ u in
-      let er = eqb-true r 0 (and_first (eqb r 0) _ u) in
-      let eg = eqb-true g 0 (and_first (eqb g 0) (eqb b 0) v) in
-      let eb = eqb-true b 0 (and_second (eqb g 0) (eqb b 0) v) in
+      let v = second_so (eqb r 0) _ u in
+      let er = eqb-true r 0 (first_so (eqb r 0) _ u) in
+      let eg = eqb-true g 0 (first_so (eqb g 0) (eqb b 0) v) in
+      let eb = eqb-true b 0 (second_so (eqb g 0) (eqb b 0) v) in
       absurd (eqb-false w 0 t (omega (arith, z, er, eg, eb, h.word))))
       (λ u. t ∙ sym u))
 
@@ -82,7 +84,7 @@ module _ (f r g b w : ℕ) (h : Entry f r g b w) where
   same_ok =
       by_test (eqb f 0)
       (λ t. let z = eqb-true f 0 t in let y : w / 0x1000000 ≡ 0 = top ∙ z in simp (t, y) (unflagged z))
-      (λ t. let n : w ≡ 0 → ⊥ = λ z. eqb-false f 0 t (zero_parts z).0 in simp (t, top, ne_eqb w 0 n) (or_false (eqb f 1)))
+      (λ t. let n : w ≡ 0 → ⊥ = λ z. eqb-false f 0 t (zero_parts z).0 in simp (t, top, ne_eqb w 0 n) (or-false (eqb f 1)))
 
   -- where it passes, the same colour or none
   same_entry : word_ok w ≡ true → pick (is_stored w) (some (colour_in w)) none ≡ bytes_entry f r g b

@@ -13,7 +13,9 @@ use lib.ListN.{get_or, length}
 use Rattle.bits.specs.Choose.{pick}
 use Rattle.bits.specs.Bit.{bit}
 use Rattle.bits.proofs.Cases.{by_test, pick_same}
-use Rattle.bits.proofs.Bools.{and_first, and_second, and_both, clash}
+use Rattle.std.specs.Cmp.{first_so, second_so}
+use Rattle.std.proofs.lemmas.Bool.{and_from}
+use Rattle.bits.proofs.Bools.{clash}
 use Rattle.chip.specs.declared.State.{State}
 use Rattle.chip.specs.declared.Access.{Access}
 use Rattle.chip.specs.declared.Place.{Place}
@@ -94,8 +96,8 @@ lent_test x = (
   (λ e.
       let t = not-false (eqb (length x.memory) x.state.fitted && eqb (length x.picture) (x.state.width * x.state.height)) e in
       record {
-        memory = eqb-true _ _ (and_first (eqb (length x.memory) x.state.fitted) _ t);
-        picture = eqb-true _ _ (and_second (eqb (length x.memory) x.state.fitted) _ t);
+        memory = eqb-true _ _ (first_so (eqb (length x.memory) x.state.fitted) _ t);
+        picture = eqb-true _ _ (second_so (eqb (length x.memory) x.state.fitted) _ t);
       }),
   (λ f. simp (eq-eqb _ _ f.memory, eq-eqb _ _ f.picture)),
 )
@@ -105,8 +107,8 @@ asked_test a = (
   (λ e.
       let t = not-false (leb a.target 3 && leb a.enables 15) e in
       record {
-        target = leb-true _ 3 (and_first (leb a.target 3) _ t);
-        enables = leb-true _ 15 (and_second (leb a.target 3) _ t);
+        target = leb-true _ 3 (first_so (leb a.target 3) _ t);
+        enables = leb-true _ 15 (second_so (leb a.target 3) _ t);
       }),
   (λ f. simp (le-leb _ 3 f.target, le-leb _ 15 f.enables)),
 )
@@ -118,13 +120,13 @@ aligned_test a = ((λ e. eqb-true _ 0 (not-false (eqb (a.offset % 4) 0) e)), (λ
 served_of : (c : ℕ) → served c ≡ true → Served c
 unfolding served swap_of
 served_of c e =
-    let p = and_second (not (eqb (c % 4) 3)) _ e in
-    let q = and_second (not (bit 3 c)) _ p in
+    let p = second_so (not (eqb (c % 4) 3)) _ e in
+    let q = second_so (not (bit 3 c)) _ p in
     record {
-      swap = λ z. clash _ (and_first (not (eqb (c % 4) 3)) _ e) (ap not (eq-eqb (c % 4) 3 z));
-      unpacked = not-true (bit 3 c) (and_first (not (bit 3 c)) _ p);
-      no_svga = not-true (bit 8 c) (and_first (not (bit 8 c)) _ q);
-      no_rom = not-true (bit 9 c) (and_second (not (bit 8 c)) _ q);
+      swap = λ z. clash _ (first_so (not (eqb (c % 4) 3)) _ e) (ap not (eq-eqb (c % 4) 3 z));
+      unpacked = not-true (bit 3 c) (first_so (not (bit 3 c)) _ p);
+      no_svga = not-true (bit 8 c) (first_so (not (bit 8 c)) _ q);
+      no_rom = not-true (bit 9 c) (second_so (not (bit 8 c)) _ q);
     }
 
 of_served : (c : ℕ) → Served c → served c ≡ true
@@ -178,15 +180,15 @@ module _ (s : State) (a : Access) where
       let u = sym (present (place_of s a)) ∙ t in
       record {
         place = place_of s a;
-        leads = place_leads s a (place_of s a) (and_first (reach_at (place_of s a)).here _ u) refl;
-        fitted = λ i q. (fits_test (reach_at (place_of s a)).window).0 (and_second (reach_at (place_of s a)).here _ u) i (window_of (place_of s a) i q);
+        leads = place_leads s a (place_of s a) (first_so (reach_at (place_of s a)).here _ u) refl;
+        fitted = λ i q. (fits_test (reach_at (place_of s a)).window).0 (second_so (reach_at (place_of s a)).here _ u) i (window_of (place_of s a) i q);
       }
 
   of_found : Found s a → (port_at s a (place_of s a)).present ≡ true
   of_found f =
       let e = leads_place s a f.place f.leads in
       present (place_of s a)
-      ∙ and_both _ _ (ap (λ (p : Place). (reach_at p).here) e ∙ somewhere f.place f.leads)
+      ∙ and_from _ _ (ap (λ (p : Place). (reach_at p).here) e ∙ somewhere f.place f.leads)
       ((fits_test (reach_at (place_of s a)).window).1 (λ i q. f.fitted i (sym e ∙ (names (place_of s a)).window i q)))
 
   pub found_test : (not (port_of s a).present ≡ false) ↔ Found s a

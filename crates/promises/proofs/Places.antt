@@ -11,7 +11,8 @@ use lib.Dec.{eqb, leb, ltb}
 use lib.ListN.{get_or, length}
 use Rattle.bits.specs.Choose.{every_to, all}
 use Rattle.bits.proofs.Cases.{by_test, pick_when}
-use Rattle.bits.proofs.Bools.{and_first, and_second, every_at, pass, clash}
+use Rattle.std.specs.Cmp.{first_so, second_so}
+use Rattle.bits.proofs.Bools.{every_at, pass, clash}
 use Rattle.chip.specs.declared.State.{State}
 use Rattle.chip.specs.declared.Access.{Access}
 use Rattle.chip.specs.declared.Place.{Place}
@@ -49,13 +50,13 @@ part_passes rows first n = eqb (length rows) n && every_to (part_test rows first
 module _ (rows : List Row) (first n : ℕ) (passed : part_passes rows first n ≡ true) where
   at : (k : ℕ) → k < n → part_test rows first k ≡ true
   unfolding part_passes
-  at k h = every_at (part_test rows first) n k (and_second (eqb (length rows) n) _ passed) h
+  at k h = every_at (part_test rows first) n k (second_so (eqb (length rows) n) _ passed) h
 
   there : (o : ℕ) → row_of rows o < n → RowAt first (first + n) (first + row_of rows o) o
   unfolding part_test part_passes
   there o h =
-      let q = and_first (eqb (bank_row (first + row_of rows o)).offset (get_or rows (row_of rows o) absent).offset) _ (at (row_of rows o) h) in
-      let long : length rows ≡ n = eqb-true _ _ (and_first (eqb (length rows) n) _ passed) in
+      let q = first_so (eqb (bank_row (first + row_of rows o)).offset (get_or rows (row_of rows o) absent).offset) _ (at (row_of rows o) h) in
+      let long : length rows ≡ n = eqb-true _ _ (first_so (eqb (length rows) n) _ passed) in
       record { least = omega arith; below = omega arith; offset = eqb-true _ _ q ∙ row_of_offset rows o (omega (arith, long)) }
 
   found : (i o : ℕ) → RowAt first (first + n) i o → first + row_of rows o ≡ i
@@ -64,7 +65,7 @@ module _ (rows : List Row) (first n : ℕ) (passed : part_passes rows first n �
       let k : i ≡ first + (i - first) = omega (arith, r.least) in
       let e = subst (λ (j : ℕ). (bank_row j).offset ≡ o) k r.offset in
       let t = at (i - first) (omega (arith, r.least, r.below)) in
-      let q = eqb-true _ _ (and_second (eqb (bank_row (first + (i - first))).offset (get_or rows (i - first) absent).offset) _ t) in
+      let q = eqb-true _ _ (second_so (eqb (bank_row (first + (i - first))).offset (get_or rows (i - first) absent).offset) _ t) in
       let z : row_of rows o ≡ i - first = ap (row_of rows) (sym e) ∙ q in
       omega (arith, z, r.least)
 

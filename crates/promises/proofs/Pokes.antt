@@ -1,7 +1,7 @@
 -- What an aperture write stores in a byte is its lane's byte, where the lane is enabled; and what a read gives in a lane is its byte.
 -- The lanes' rule is its own inverse; the four lanes one by one. Assumes nothing.
 use Prim.Native.Nat.{ℕ, ◌+◌, ◌-◌, ◌%◌, ◌<◌, ◌≤◌}
-use mathlib.Core.Bool.{◌&&◌}
+use mathlib.Core.Bool.{◌&&◌, and-false, and-true}
 use mathlib.Core.List.{List, []}
 use mathlib.Core.Option.{Option, none, some}
 use mathlib.Core.Path.{◌≡◌, refl, sym, ap, ap₂, ◌∙◌}
@@ -13,7 +13,6 @@ use Rattle.bits.specs.Choose.{pick}
 use Rattle.bits.specs.Bit.{bit}
 use Rattle.bits.specs.Word.{lane_byte}
 use Rattle.bits.proofs.Cases.{by_test, pick_by}
-use Rattle.bits.proofs.Bools.{and_false, and_true}
 use Rattle.bits.proofs.Lanes.{by_lane}
 use Rattle.chip.specs.declared.Access.{Access}
 use Rattle.chip.specs.Units.{at_byte}
@@ -88,7 +87,7 @@ module _ (c : ℕ) (a : Access) (k : ℕ) where
   -- a byte that is none of the four
   one_none : (j : ℕ) → (a.offset + lane_at c j ≡ k → ⊥) → one j ≡ none
   unfolding one
-  one_none j d = simp (ne_eqb (a.offset + lane_at c j) k d, and_false)
+  one_none j d = simp (ne_eqb (a.offset + lane_at c j) k d, and-false)
 
   poke_none : ((n : ℕ) → n < 4 → a.offset + n ≡ k → ⊥) → last_poke k (puts_of c (at_byte a.offset) a.enables a.word) ≡ none
   poke_none d =
@@ -112,8 +111,8 @@ module _ (c : ℕ) (a : Access) (k : ℕ) where
         eqb_since a.offset (lane_at c j) k h ∙ at_agree c j (k - a.offset) hj (omega arith) in
         by_test (eqb j (lane_at c (k - a.offset)))
         (λ t. let d : j ≡ lane_at c (k - a.offset) = eqb-true j _ t in
-        simp (e, t, and_true) (ap (λ (n : ℕ). pick (bit n a.enables) (some (lane_byte n a.word)) none) d))
-        (λ t. simp (e, t, and_false))
+        simp (e, t, and-true) (ap (λ (n : ℕ). pick (bit n a.enables) (some (lane_byte n a.word)) none) d))
+        (λ t. simp (e, t, and-false))
 
     poke_its : last_poke k (puts_of c (at_byte a.offset) a.enables a.word) ≡ its
     poke_its =

@@ -7,10 +7,9 @@ use mathlib.Core.Logic.{◌↔◌}
 use mathlib.Core.Option.{some}
 use mathlib.Core.Path.{◌≡◌, refl, sym, ap, ap₂, ◌∙◌, subst}
 use native.Mathlib.Omega.{arith}
-use lib.ListN.{get_or, length, length-map}
+use lib.ListN.{get_or, length, length-map, get_or-map}
 use lib.Seq.{ext_get_or}
 use Rattle.bits.specs.Word.{inside}
-use Rattle.bits.proofs.Lists.{get_d_map}
 use Rattle.chip.specs.declared.State.{State}
 use Rattle.chip.specs.declared.Access.{Access}
 use Rattle.chip.specs.declared.Colour.{Colour}
@@ -95,16 +94,16 @@ columns_exist s t =
     }
   where
     red : (e : ℕ) → get_or (map (λ (w : ℕ). w / 0x10000 % 256) s.palette) e 0 ≡ get_or s.palette e 0 / 0x10000 % 256
-    red e = get_d_map (λ (w : ℕ). w / 0x10000 % 256) s.palette e 0 refl
+    red e = get_or-map (λ (w : ℕ). w / 0x10000 % 256) s.palette e 0
 
     green : (e : ℕ) → get_or (map (λ (w : ℕ). w / 0x100 % 256) s.palette) e 0 ≡ get_or s.palette e 0 / 0x100 % 256
-    green e = get_d_map (λ (w : ℕ). w / 0x100 % 256) s.palette e 0 refl
+    green e = get_or-map (λ (w : ℕ). w / 0x100 % 256) s.palette e 0
 
     blue : (e : ℕ) → get_or (map (λ (w : ℕ). w % 256) s.palette) e 0 ≡ get_or s.palette e 0 % 256
-    blue e = get_d_map (λ (w : ℕ). w % 256) s.palette e 0 refl
+    blue e = get_or-map (λ (w : ℕ). w % 256) s.palette e 0
 
     flag : (e : ℕ) → get_or (map (λ (w : ℕ). w / 0x1000000) s.palette) e 0 ≡ get_or s.palette e 0 / 0x1000000
-    flag e = get_d_map (λ (w : ℕ). w / 0x1000000) s.palette e 0 refl
+    flag e = get_or-map (λ (w : ℕ). w / 0x1000000) s.palette e 0
 
 -- .. and no second: a state is what it is without its palette, and its palette
 pub words_one : (b : ColumnState) (s t : State) → Paired b s → Paired b t → s ≡ t

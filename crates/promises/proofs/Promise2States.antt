@@ -1,11 +1,10 @@
 -- Promise 2. An opening that is not refused gives a state, the picture all 03000000h and memory as lent; every access keeps a state a state.
 -- From the laws of a good world. Assumes nothing.
 use Prim.Native.Nat.{ℕ, ◌<◌}
-use mathlib.Core.Bool.{Bool, true, false, not, ◌&&◌}
+use mathlib.Core.Bool.{Bool, true, false, not, ◌&&◌, and-true}
 use mathlib.Core.List.{List}
 use mathlib.Core.Path.{◌≡◌, refl, sym, ap, ◌∙◌}
 use Rattle.bits.specs.Bit.{bit}
-use Rattle.bits.proofs.Bools.{and_true}
 use Rattle.bits.proofs.Single.{bit_of_zero}
 use Rattle.bits.proofs.Words.{clear, bit_outside, clear_not}
 use Rattle.bits.proofs.Lists.{zeros_at}
@@ -56,7 +55,7 @@ unstated : (i b : ℕ) → i < bank_count → b < 32 → bit b (bank_row i).know
 unstated i b hi hb e =
     let r = bank_rule i hi in
     let z : (bit b (bank_row i).reset && clear b (bank_row i).known) ≡ false = sym (bit_outside b (bank_row i).reset (bank_row i).known) ∙ ap (bit b) r.zero ∙ bit_of_zero b in
-    sym (and_true (bit b (bank_row i).reset)) ∙ ap (λ (t : Bool). bit b (bank_row i).reset && t) (sym (clear_not b (bank_row i).known hb r.word ∙ ap not e)) ∙ z
+    sym (and-true (bit b (bank_row i).reset)) ∙ ap (λ (t : Bool). bit b (bank_row i).reset && t) (sym (clear_not b (bank_row i).known hb r.word ∙ ap not e)) ∙ z
 
 -- .. and so is the rest
 pub reset_means : (w h f : ℕ) → IsReset (reset_state w h f) w h f

@@ -1,7 +1,7 @@
 -- Promise 2, of the tables: how they make up the bank and the map of the indices, that the rows that the rules name stand at their offsets, and that what 01 says of
 -- registers by name is in them. By one computed test over the bank. Assumes nothing.
 use Prim.Native.Nat.{ℕ, zero, suc, ◌/◌, ◌%◌, ◌≤◌, ◌<◌}
-use mathlib.Core.Bool.{Bool, true, false, not, ◌&&◌, ◌||◌}
+use mathlib.Core.Bool.{Bool, true, false, not, ◌&&◌, ◌||◌, or-true}
 use mathlib.Core.List.{List, [], ◌∷◌}
 use mathlib.Core.Logic.{◌⊎◌, inl, inr}
 use mathlib.Core.Path.{◌≡◌, refl, sym, ap, ◌∙◌, subst}
@@ -16,7 +16,8 @@ use Rattle.bits.proofs.Cases.{by_test}
 use Rattle.bits.proofs.Words.{bit_inside}
 use Rattle.bits.proofs.Lanes.{bit_lane, lane_lt}
 use Rattle.bits.specs.Choose.{pick, every_to}
-use Rattle.bits.proofs.Bools.{and_first, and_second, or_true, every_at}
+use Rattle.std.specs.Cmp.{first_so, second_so}
+use Rattle.bits.proofs.Bools.{every_at}
 use Rattle.chip.specs.Row.{Row}
 use Rattle.chip.specs.Bank.{bank_count, region_count, header_first, indirect_first, bank_row, indirect_at, Entry, indirect_entry, indirect_map}
 use Rattle.chip.proofs.Tables.{none_there, map_at, map_length, indirect_rule}
@@ -78,11 +79,11 @@ rows_pass = refl
 in_vain : (i : ℕ) → vain (bank_row i) ≡ true → InVain i
 unfolding vain
 in_vain i e =
-    let u = and_second (bank_row i).writes _ e in
+    let u = second_so (bank_row i).writes _ e in
     record {
-      writes = and_first (bank_row i).writes _ e;
-      writable = eqb-true _ 0 (and_first (eqb (bank_row i).writable 0) _ u);
-      clears = eqb-true _ 0 (and_second (eqb (bank_row i).writable 0) _ u);
+      writes = first_so (bank_row i).writes _ e;
+      writable = eqb-true _ 0 (first_so (eqb (bank_row i).writable 0) _ u);
+      clears = eqb-true _ 0 (second_so (eqb (bank_row i).writable 0) _ u);
     }
 
 of_region : (i o : ℕ) → RowAt 0 region_count i o → region_test i ≡ true
@@ -105,42 +106,42 @@ status_row i = vain (bank_row i) && ((bank_row i).reads && eqb (bank_row i).know
 of_status : (i o : ℕ) → (eqb o 0x29 || eqb o 0x33) ≡ true → RowAt indirect_first bank_count i o → status_row i ≡ true
 unfolding indirect_test
 of_status i o e r =
-    let t = and_first (pick (eqb (bank_row i).offset 0x29 || eqb (bank_row i).offset 0x33) (status_row i) true) _ (of_indirect i o r) in
+    let t = first_so (pick (eqb (bank_row i).offset 0x29 || eqb (bank_row i).offset 0x33) (status_row i) true) _ (of_indirect i o r) in
     simp (subst (λ (k : ℕ). (eqb k 0x29 || eqb k 0x33) ≡ true) (sym r.offset) e) at t
 
 is_unknown : (i : ℕ) → status_row i ≡ true → ((bank_row i).reads ≡ true) × ((bank_row i).known ≡ 0)
 is_unknown i e =
-    let u = and_second (vain (bank_row i)) _ e in
-    (and_first (bank_row i).reads _ u, eqb-true _ 0 (and_second (bank_row i).reads _ u))
+    let u = second_so (vain (bank_row i)) _ e in
+    (first_so (bank_row i).reads _ u, eqb-true _ 0 (second_so (bank_row i).reads _ u))
 
 clock_of : (i o : ℕ) → clock o ≡ true → RowAt indirect_first bank_count i o → ((bank_row i).reads ≡ false) × ((bank_row i).writes ≡ true)
 unfolding indirect_test
 clock_of i o e r =
-    let t = and_second (pick (eqb (bank_row i).offset 0x29 || eqb (bank_row i).offset 0x33) (status_row i) true) _ (of_indirect i o r) in
+    let t = second_so (pick (eqb (bank_row i).offset 0x29 || eqb (bank_row i).offset 0x33) (status_row i) true) _ (of_indirect i o r) in
     let u = simp (subst (λ (k : ℕ). clock k ≡ true) (sym r.offset) e) at t in
-    (not-true (bank_row i).reads (and_first (not (bank_row i).reads) _ u), and_second (not (bank_row i).reads) _ u)
+    (not-true (bank_row i).reads (first_so (not (bank_row i).reads) _ u), second_so (not (bank_row i).reads) _ u)
 
 region_vain : (i o : ℕ) → (eqb o 0xE8 || eqb o 0x1000) ≡ true → RowAt 0 region_count i o → InVain i
 unfolding region_test
 region_vain i o e r =
-    let t = and_first (pick (eqb (bank_row i).offset 0xE8 || eqb (bank_row i).offset 0x1000) (vain (bank_row i)) true) _ (of_region i o r) in
+    let t = first_so (pick (eqb (bank_row i).offset 0xE8 || eqb (bank_row i).offset 0x1000) (vain (bank_row i)) true) _ (of_region i o r) in
     in_vain i (simp (subst (λ (k : ℕ). (eqb k 0xE8 || eqb k 0x1000) ≡ true) (sym r.offset) e) at t)
 
 region_only : (i o : ℕ) → (eqb o 0x1140 || eqb o 0x1180) ≡ true → RowAt 0 region_count i o → ((bank_row i).reads ≡ true) × ((bank_row i).writes ≡ false)
 unfolding region_test
 region_only i o e r =
-    let t = and_second (pick (eqb (bank_row i).offset 0xE8 || eqb (bank_row i).offset 0x1000) (vain (bank_row i)) true) _ (of_region i o r) in
+    let t = second_so (pick (eqb (bank_row i).offset 0xE8 || eqb (bank_row i).offset 0x1000) (vain (bank_row i)) true) _ (of_region i o r) in
     let u = simp (subst (λ (k : ℕ). (eqb k 0x1140 || eqb k 0x1180) ≡ true) (sym r.offset) e) at t in
-    (and_first (bank_row i).reads _ u, not-true (bank_row i).writes (and_second (bank_row i).reads _ u))
+    (first_so (bank_row i).reads _ u, not-true (bank_row i).writes (second_so (bank_row i).reads _ u))
 
 pub tables_mean : Named
 unfolding header_test clock
 tables_mean =
     record {
-      header = λ i o r. let e = of_header i o r in (and_first (bank_row i).reads _ e, and_second (bank_row i).reads _ e);
+      header = λ i o r. let e = of_header i o r in (first_so (bank_row i).reads _ e, second_so (bank_row i).reads _ e);
       complete = λ i r. region_vain i 0xE8 refl r;
       reboot = λ i r. region_vain i 0x1000 refl r;
-      status = λ i r. in_vain i (and_first (vain (bank_row i)) _ (either i r));
+      status = λ i r. in_vain i (first_so (vain (bank_row i)) _ (either i r));
       unknown = λ i r. is_unknown i (either i r);
       read_only_lem = either_only;
       clocks = λ i o r c. clock_of i o (in_clock o c) r;
@@ -156,7 +157,7 @@ tables_mean =
 
     in_clock : (o : ℕ) → ((0x20 ≤ o) × (o ≤ 0x28)) ⊎ ((0x30 ≤ o) × (o ≤ 0x32)) → clock o ≡ true
     in_clock o (inl c) = simp (le-leb 0x20 o c.0, le-leb o 0x28 c.1)
-    in_clock o (inr c) = simp (le-leb 0x30 o c.0, le-leb o 0x32 c.1) (or_true (leb 0x20 o && leb o 0x28))
+    in_clock o (inr c) = simp (le-leb 0x30 o c.0, le-leb o 0x32 c.1) (or-true (leb 0x20 o && leb o 0x28))
 
 -- ---- the map of the indices
 

@@ -1,7 +1,7 @@
 -- Promise 3. What an access alters, and that it alters nothing else; a word is zero where it is not known, and shows nothing in lanes that are not enabled; a write answers 0 and 0.
 -- From the laws of Only and Answers. Assumes nothing.
 use Prim.Native.Nat.{ℕ, ◌+◌, ◌*◌, ◌/◌, ◌^◌, ◌≤◌, ◌<◌}
-use mathlib.Core.Bool.{Bool, true, false, not, ◌&&◌, ◌||◌}
+use mathlib.Core.Bool.{Bool, true, false, not, ◌&&◌, ◌||◌, and-false, and-true, or-false}
 use mathlib.Core.Option
 use mathlib.Core.Option.{Option, none, some}
 use mathlib.Core.List.{List, [], ◌∷◌}
@@ -13,7 +13,7 @@ use lib.ListN.{get_or, length}
 use Rattle.bits.specs.Choose.{pick, every_to}
 use Rattle.bits.specs.Bit.{bit}
 use Rattle.bits.specs.Word.{lane_byte}
-use Rattle.bits.proofs.Bools.{and_false, and_true, or_false, every_at}
+use Rattle.bits.proofs.Bools.{every_at}
 use Rattle.chip.specs.declared.Access.{Access}
 use Rattle.chip.specs.Bank.{bank_row, subsystem}
 use Rattle.chip.specs.Palette.{entry_count, entry_of}
@@ -79,13 +79,13 @@ module _ (x : World) (a : Access) (g : Good x) where
   -- a number that is fixed stays, whatever is written
   pub number_stays : (b : ℕ) → b < 32 → bit (b / 16) x.state.once ≡ true → SameBit x.state (after x a).state (spot subsystem b)
   unfolding moves bit_moves
-  number_stays b hb f = bits_stay (spot subsystem b) (number b hb) (simp (f, and_false))
+  number_stays b hb f = bits_stay (spot subsystem b) (number b hb) (simp (f, and-false))
 
   -- one that is not takes the word's bits with both of its lanes, and stays with one
   pub number_fixed : (b : ℕ) → b < 32 → bit (b / 16) x.state.once ≡ false → fixes x a (b / 16) ≡ true
       → holds (after x a).state (spot subsystem b) ≡ some (bit b a.word)
   unfolding moves bit_moves fixes brought_bit
-  number_fixed b hb f e = bits_move (spot subsystem b) (number b hb) (simp f e) ∙ ap some (simp (never_cleared b hb, and_true))
+  number_fixed b hb f e = bits_move (spot subsystem b) (number b hb) (simp f e) ∙ ap some (simp (never_cleared b hb, and-true))
 
   pub number_waits : (b : ℕ) → b < 32 → fixes x a (b / 16) ≡ false → SameBit x.state (after x a).state (spot subsystem b)
   unfolding moves bit_moves fixes
@@ -128,7 +128,7 @@ module _ (x : World) (a : Access) (g : Good x) where
 
 -- so a number is fixed after a list of accesses exactly where it was before, or an access of the list fixes it
 pub flags_along : (x : World) (l : List Access) (n : ℕ) → n < 2 → Good x → bit n (run x l).state.once ≡ (bit n x.state.once || fixed_in x l n)
-flags_along x [] n h g = sym (or_false (bit n x.state.once))
+flags_along x [] n h g = sym (or-false (bit n x.state.once))
 flags_along x (a ∷ l) n h g =
     flags_along (after x a) l n h (good_kept x a g)
     ∙ ap (λ (t : Bool). t || fixed_in (after x a) l n) (flags_move x a g n h)

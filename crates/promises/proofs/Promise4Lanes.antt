@@ -1,7 +1,7 @@
 -- Promise 4, the lanes of an aperture (01, Apertures, with 02, C-17): the rule is its own inverse, a read or a look shows each byte in its lane, and gives back what a write by the same rule stored.
 -- From the laws of the lanes (Pokes), what is told of a byte (Known) and WrittenBack. Assumes nothing.
 use Prim.Native.Nat.{ℕ, ◌+◌, ◌*◌, ◌/◌, ◌%◌, ◌≤◌, ◌<◌}
-use mathlib.Core.Bool.{Bool, true, false, ◌&&◌}
+use mathlib.Core.Bool.{Bool, true, false, ◌&&◌, and-false, and-true}
 use mathlib.Core.List.{List}
 use mathlib.Core.Option.{none, some}
 use mathlib.Core.Path.{◌≡◌, refl, sym, ap, ◌∙◌}
@@ -11,7 +11,6 @@ use Rattle.bits.specs.Choose.{pick}
 use Rattle.bits.specs.Bit.{bit}
 use Rattle.bits.specs.Word.{lane_byte, inside, lanes_of}
 use Rattle.bits.proofs.Cases.{by_test}
-use Rattle.bits.proofs.Bools.{and_false, and_true}
 use Rattle.bits.proofs.Words.{bit_inside, lane_bit, lanes_lt, inside_le}
 use Rattle.bits.proofs.Lanes.{bit_lane}
 use Rattle.chip.specs.declared.Access.{Access}
@@ -91,7 +90,7 @@ module _ (x : World) (a r : Access) (i : ℕ) (g : Good x) (w : WritesWindow x a
       ∙ ap (λ (v : ℕ). pick (bit (b / 8) r.enables) (some (bit (b % 8) v)) none) (byte_back x a r i g w f e (b / 8) (omega arith))
       ∙ by_test (bit (b / 8) r.enables)
       (λ u. by_test (bit (b / 8) a.enables) (λ t. simp (t, u) (ap some (sym (bit_lane b a.word)))) (λ t. simp (t, u) (sym (without ∙ simp u))))
-      (λ u. simp (u, and_false) (sym (without ∙ simp u)))
+      (λ u. simp (u, and-false) (sym (without ∙ simp u)))
     where
       without : shows (step x r).answer b ≡ pick (bit (b / 8) r.enables) (some (bit (b % 8) (get_or x.memory (a.offset + lane_at (get_or x.state.values i 0) (b / 8)) 0))) none
       without = shown_there x a r i g w f e x g refl b hb
@@ -111,13 +110,13 @@ written_back x a r i g w f q = (written_accepted x a r i g w f e, answer.0, answ
     lane b hb = lane_bit b a.enables hb (omega (arith, q, e))
 
     above : (b : ℕ) → b < 32 → bit b k ≡ false → bit b (inside a.word k) ≡ false
-    above b hb t = bit_inside b a.word k ∙ simp (t, and_false)
+    above b hb t = bit_inside b a.word k ∙ simp (t, and-false)
 
     bits : (b : ℕ) → b < 32 → shows (step (after x a) r).answer b ≡ pick (bit b k) (some (bit b (inside a.word k))) none
     bits b hb =
         written_shown x a r i g w f e b hb
         ∙ by_test (bit (b / 8) a.enables)
-        (λ t. simp (q, t, lane b hb, bit_inside b a.word k, and_true))
+        (λ t. simp (q, t, lane b hb, bit_inside b a.word k, and-true))
         (λ t. simp (q, t, lane b hb) (shown_there x a r i g w f e x g refl b hb ∙ simp (q, t)))
 
     answer : ((step (after x a) r).answer.word ≡ inside a.word k) × ((step (after x a) r).answer.known ≡ k)

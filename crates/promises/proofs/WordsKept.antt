@@ -12,7 +12,7 @@ use lib.ListN.{get_or}
 use Rattle.bits.specs.Choose.{every_in}
 use Rattle.bits.specs.Word.{full, merged}
 use Rattle.bits.proofs.Cases.{by_test, pick_by}
-use Rattle.bits.proofs.Bools.{and_first, and_second}
+use Rattle.std.specs.Cmp.{first_so, second_so}
 use Rattle.bits.proofs.Lists.{set_lt, zeros_at}
 use Rattle.bits.proofs.Words.{inside_le, outside_lt, joined_lt}
 use Rattle.chip.specs.declared.State.{State}
@@ -54,15 +54,15 @@ words_all = refl
 row_passes : (t : Row → Bool) (l : List Row) → every_in t l ≡ true → t absent ≡ true → (i : ℕ) → t (get_or l i absent) ≡ true
 row_passes t [] e z zero = z
 row_passes t [] e z (suc i) = z
-row_passes t (r ∷ l) e z zero = and_first (t r) _ e
-row_passes t (r ∷ l) e z (suc i) = row_passes t l (and_second (t r) _ e) z i
+row_passes t (r ∷ l) e z zero = first_so (t r) _ e
+row_passes t (r ∷ l) e z (suc i) = row_passes t l (second_so (t r) _ e) z i
 
 row_words : (i : ℕ) → ((bank_row i).reset < 2 ^ 32) × ((bank_row i).known < 2 ^ 32)
 unfolding bank_row words_test
 row_words i =
     let z = row_passes words_test bank_rows words_all refl i in
-    let r = leb-true (get_or bank_rows i absent).reset full (and_first (leb (get_or bank_rows i absent).reset full) (leb (get_or bank_rows i absent).known full) z) in
-    let k = leb-true (get_or bank_rows i absent).known full (and_second (leb (get_or bank_rows i absent).reset full) (leb (get_or bank_rows i absent).known full) z) in
+    let r = leb-true (get_or bank_rows i absent).reset full (first_so (leb (get_or bank_rows i absent).reset full) (leb (get_or bank_rows i absent).known full) z) in
+    let k = leb-true (get_or bank_rows i absent).known full (second_so (leb (get_or bank_rows i absent).reset full) (leb (get_or bank_rows i absent).known full) z) in
     (omega arith, omega arith)
 
 reset_words : (w h f : ℕ) → Words (reset_state w h f)

@@ -8,7 +8,8 @@ use native.Mathlib.Omega.{arith}
 use borrow.Author.Tests.{eqb-true}
 use lib.ListN.{replicate, length-replicate}
 use Rattle.bits.specs.Choose.{every_in}
-use Rattle.bits.proofs.Bools.{and_first, and_second, and_both}
+use Rattle.std.specs.Cmp.{first_so, second_so}
+use Rattle.std.proofs.lemmas.Bool.{and_from}
 use Rattle.bits.proofs.Lists.{zeros_at}
 use Rattle.chip.specs.declared.Access.{Access}
 use Rattle.chip.specs.Refusal.{opening_status}
@@ -59,9 +60,9 @@ case_holds c t =
 all_hold : (l : List Case) → every_in fits l ≡ true → every_in surely l ≡ true → every_in holds l ≡ true
 all_hold [] t e = refl
 all_hold (c ∷ l) t e =
-    and_both (holds c) (every_in holds l)
-    (case_holds c (and_first (fits c) (every_in fits l) t) ∙ and_first (surely c) (every_in surely l) e)
-    (all_hold l (and_second (fits c) (every_in fits l) t) (and_second (surely c) (every_in surely l) e))
+    and_from (holds c) (every_in holds l)
+    (case_holds c (first_so (fits c) (every_in fits l) t) ∙ first_so (surely c) (every_in surely l) e)
+    (all_hold l (second_so (fits c) (every_in fits l) t) (second_so (surely c) (every_in surely l) e))
 
 -- ---- the lists
 

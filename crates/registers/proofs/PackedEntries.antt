@@ -1,13 +1,14 @@
 -- The table of packed entries is the map of the indices: each number opens to the parts of its entry and to its row.
 -- The packing is undone by arithmetic on parts below 256; the table is one computed list. Assumes nothing.
-use Prim.Native.Nat.{ℕ, zero, suc, ◌+◌, ◌*◌, ◌/◌, ◌%◌, ◌<◌, ◌≤◌}
-use mathlib.Core.List.{List, [], ◌∷◌}
+use Prim.Native.Nat.{ℕ, ◌+◌, ◌*◌, ◌/◌, ◌%◌, ◌<◌, ◌≤◌}
+use mathlib.Core.List.{List, map}
 use mathlib.Core.Path.{◌≡◌, ap, ◌∙◌}
-use native.Mathlib.Nat.{not-suc-le-zero, le_of_suc-le-suc}
 use native.Mathlib.Omega.{arith}
 use borrow.Author.Tests.{ltb-true}
 use lib.Dec.{eqb}
 use lib.ListN.{get_or}
+use Rattle.std.specs.List.{range_with_len}
+use Rattle.std.proofs.lemmas.List.FromFn.{get_or-map-range_with_len}
 use Rattle.bits.specs.Choose.{pick}
 use Rattle.bits.proofs.Cases.{pick_when}
 use Rattle.chip.specs.Bank.{bank_count, index_count, Entry, indirect_at, indirect_entry}
@@ -64,19 +65,15 @@ pub unpacks : (i p : ℕ) → i < index_count → p ≡ packed_at i → Unpacks 
 unfolding packed_at
 unpacks i p h e = rw e (unpacks_entry (indirect_entry i) (index_row i) (indirect_rule i h) (row_byte_lem i))
 
--- a function's values from i on, n of them
-abbrev listed : (ℕ → ℕ) → ℕ → ℕ → List ℕ
-listed f i zero = []
-listed f i (suc n) = f i ∷ listed f (suc i) n
+pub exists_in : (i p : ℕ) → i < index_count → p ≡ packed_at i → eqb (p / 0x1000000 % 2) 1 ≡ (indirect_entry i).exists
+exists_in i p h e = (unpacks i p h e).exists
 
-listed_at : (f : ℕ → ℕ) (i n k : ℕ) → k < n → get_or (listed f i n) k 0 ≡ f (i + k)
-listed_at f i zero k h = absurd (not-suc-le-zero h)
-listed_at f i (suc n) zero h = ap f (let e : i ≡ i + 0 = omega arith in e)
-listed_at f i (suc n) (suc k) h = listed_at f (suc i) n k (le_of_suc-le-suc h) ∙ ap f (let e : suc i + k ≡ i + suc k = omega arith in e)
+pub reads_in : (i p : ℕ) → i < index_count → p ≡ packed_at i → eqb (p / 0x2000000 % 2) 1 ≡ (indirect_entry i).reads
+reads_in i p h e = (unpacks i p h e).reads
 
 unfoldable pub packed_map : List ℕ
-packed_map = listed packed_at 0 index_count
+packed_map = map packed_at (range_with_len 0 index_count)
 
 pub packed_at_lem : (i : ℕ) → i < index_count → get_or packed_map i 0 ≡ packed_at i
 unfolding packed_map
-packed_at_lem i h = listed_at packed_at 0 index_count i h ∙ ap packed_at (let e : 0 + i ≡ i = omega arith in e)
+packed_at_lem i h = get_or-map-range_with_len packed_at 0 index_count i i 0 h (omega arith)

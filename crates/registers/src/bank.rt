@@ -378,6 +378,7 @@ pub fn row_writes(i: usize) -> bool
     in_set(&WRITES, i)
 }
 
+#[tactic(auto, using(crate::proofs::Rows::writable_at), unfolding(chip::specs::Bank::bank_rows, chip::specs::Region::region_rows, chip::specs::Header::header_rows, chip::specs::Indirect::indirect_rows))]
 pub fn row_writable(i: usize) -> u32
     ensures { result ≡ (bank_row i).writable }
 {
@@ -393,6 +394,7 @@ fn row_clears(i: usize) -> u32
 }
 
 // The bits that a write of word with enables e stores.
+#[tactic(auto, unfolding(chip::specs::Subsystem::stored_bits, chip::specs::Register::moved_bits))]
 pub fn stored_bits(once: u32, i: usize, e: u32, word: u32) -> u32
     ensures { result ≡ stored_bits once i e word }
 {
@@ -405,6 +407,7 @@ pub fn stored_bits(once: u32, i: usize, e: u32, word: u32) -> u32
 }
 
 // What it stores there: zero in the bits that are cleared by one.
+#[tactic(auto, unfolding(chip::specs::Register::brought_word))]
 pub fn brought_word(i: usize, word: u32) -> u32
     ensures { result ≡ brought_word (bank_row i) word }
 {
@@ -438,12 +441,14 @@ pub fn bank_sound(once: u32, values: &[u32; ROWS], knowns: &[u32; ROWS]) -> bool
     )
 }
 
+#[tactic(auto, unfolding(chip::proofs::Computed::computed))]
 pub fn bank_resets() -> [u32; ROWS]
     ensures { result ≡ bank_resets }
 {
     RESETS
 }
 
+#[tactic(auto, unfolding(chip::proofs::Computed::computed))]
 pub fn bank_knowns() -> [u32; ROWS]
     ensures { result ≡ bank_knowns }
 {
@@ -479,6 +484,7 @@ pub fn write_row(
 }
 
 // The bank at reset.
+#[tactic(auto, unfolding(chip::proofs::Computed::computed))]
 pub fn reset_bank(values: &mut [u32; ROWS], knowns: &mut [u32; ROWS])
     ensures { BankReset values.new knowns.new }
 {

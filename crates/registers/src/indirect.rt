@@ -49,30 +49,35 @@ const INDIRECT: [u32; 256] = [
     0, 0, 0, 0, 0, 0, 0, 0, 0, 0, 0, 0, 0, 0, 0,
 ];
 
+#[tactic(auto, using(crate::proofs::PackedEntries::packed_at_lem), unfolding(crate::proofs::PackedEntries::packed_map, crate::specs::Packed::packed_at, crate::specs::Packed::packed, crate::specs::Packed::index_row, chip::proofs::Computed::computed))]
 fn packed_of(i: u8) -> u32
     ensures { result ≡ packed_at i }
 {
     INDIRECT[usize::from(i)]
 }
 
+#[tactic(auto, using(crate::proofs::PackedEntries::exists_in))]
 pub fn index_exists(i: u8) -> bool
     ensures { result ≡ (indirect_entry i).exists }
 {
     packed_of(i) / 0x1000000 % 2 == 1
 }
 
+#[tactic(auto, using(crate::proofs::PackedEntries::unpacks))]
 pub fn index_writable(i: u8) -> u8
     ensures { result ≡ (indirect_entry i).writable }
 {
     (packed_of(i) % 256) as u8
 }
 
+#[tactic(auto, using(crate::proofs::PackedEntries::reads_in))]
 pub fn index_reads(i: u8) -> bool
     ensures { result ≡ (indirect_entry i).reads }
 {
     packed_of(i) / 0x2000000 % 2 == 1
 }
 
+#[tactic(auto, using(crate::proofs::PackedEntries::unpacks))]
 pub fn index_reset(i: u8) -> u8
     ensures { result ≡ (indirect_entry i).reset }
 {
@@ -80,6 +85,7 @@ pub fn index_reset(i: u8) -> u8
 }
 
 // The row of the register at an index.
+#[tactic(auto, unfolding(crate::specs::Found::indirect_row, chip::specs::Bank::indirect_entry))]
 pub(crate) fn indirect_row(i: u8) -> Option<usize>
     ensures { result ≡ indirect_row i }
 {

@@ -69,6 +69,7 @@ const HEADER_OFFSETS: [u32; HEADER_ROWS] = [
 ];
 
 // The row at an offset of region 0; REGION_ROWS where there is none. This number for none, and the header's, are what region_at_one and header_at_one fix.
+#[tactic(auto, using(crate::proofs::Searches::region_ended), unfolding(chip::specs::Region::region_rows))]
 pub fn region_at(o: u32) -> usize
     ensures { result ≡ region_at o }
 {
@@ -76,6 +77,7 @@ pub fn region_at(o: u32) -> usize
 }
 
 // The row at an offset of the header; INDIRECT_FIRST, past the header's rows, where there is none.
+#[tactic(auto, using(crate::proofs::Searches::header_ended, crate::proofs::Searches::header_short), unfolding(chip::specs::Header::header_rows))]
 pub fn header_at(o: u32) -> usize
     ensures { result ≡ header_at o }
 {
@@ -83,12 +85,14 @@ pub fn header_at(o: u32) -> usize
 }
 
 // The row at an offset, if there is one, counted from the first of its part.
+#[tactic(auto, using(crate::proofs::Searches::region_searched), unfolding(chip::specs::Region::region_rows))]
 pub(crate) fn region_row(o: u32) -> Option<usize>
     ensures { result ≡ region_row o }
 {
     row_with(&REGION_OFFSETS, o)
 }
 
+#[tactic(auto, using(crate::proofs::Searches::header_searched), unfolding(chip::specs::Header::header_rows))]
 pub(crate) fn header_row(o: u32) -> Option<usize>
     ensures { result ≡ header_row o }
 {

@@ -22,6 +22,7 @@ fn both_lanes(e: u32, a: u32, b: u32) -> bool
 }
 
 // The halves whose lanes are both enabled: 1 the vendor's, 2 the ID's.
+#[tactic(auto, unfolding(chip::specs::Subsystem::halves_of))]
 fn halves_of(e: u32) -> u32
     ensures { result ≡ halves_of e }
 {

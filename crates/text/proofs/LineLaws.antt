@@ -1,7 +1,7 @@
 -- What a line asks for, field by field: the reader's steps against the definition.
 -- By the fields of a line (FieldLaws) and by cases on what each step gave. Assumes nothing.
 use Prim.Native.Nat.{ℕ, suc, ◌-◌, ◌<◌, ◌≤◌}
-use mathlib.Core.Bool.{Bool, true, false, ◌&&◌}
+use mathlib.Core.Bool.{Bool, true, false, ◌&&◌, and-false}
 use mathlib.Core.List.{List, [], ◌∷◌}
 use mathlib.Core.Path.{◌≡◌, refl, sym, ap, subst, ◌∙◌}
 use native.Mathlib.Omega.{arith}
@@ -14,7 +14,6 @@ use Rattle.std.specs.Char.{digit_value}
 use Rattle.text.proofs.NumberLaws.{digit_is, digit_none}
 use Rattle.bits.specs.Choose.{pick, every_in}
 use Rattle.bits.proofs.Cases.{by_test, pick_by}
-use Rattle.bits.proofs.Bools.{and_false}
 use Rattle.chip.specs.declared.Access.{Access}
 use Rattle.chip.specs.declared.Kind.{Kind}
 use Rattle.chip.specs.Access.{writing}
@@ -112,11 +111,11 @@ spaced [] h = absurd (omega arith)
 spaced (c ∷ l) h =
     by_test (eqb c 32)
     (λ t. let e : c ≡ 32 = eqb-true c 32 t in simp e)
-    (λ t. let u = ap length (up_to_miss 32 c l t) in let s = spaced l (omega arith) in simp (s, and_false (ltb (digit_of c) 16)))
+    (λ t. let u = ap length (up_to_miss 32 c l t) in let s = spaced l (omega arith) in simp (s, and-false (ltb (digit_of c) 16)))
 
 spaced_number : (l : List ℕ) → length (up_to 32 l) < length l → is_number 16 l ≡ false
 unfolding is_number
-spaced_number l h = simp (spaced l h, and_false (leb (length l) 8), and_false (leb 1 (length l)))
+spaced_number l h = simp (spaced l h, and-false (leb (length l) 8), and-false (leb 1 (length l)))
 
 fields_some : (l : List ℕ) → (f : List ℕ) × (fs : List (List ℕ)) × (fields_of l ≡ f ∷ fs)
 fields_some [] = ([], [], fields_none)

@@ -1,7 +1,7 @@
 -- What a digit counts, which is the library's `to_digit`, and a number's digits one by one.
 -- By cases on the tests; 16 to the power of at most seven is below 2 ^ 28 by computing. Assumes nothing.
 use Prim.Native.Nat.{ℕ, suc, ◌+◌, ◌*◌, ◌^◌, ◌<◌, ◌≤◌}
-use mathlib.Core.Bool.{true, false}
+use mathlib.Core.Bool.{true, false, and-false}
 use mathlib.Core.List.{List, [], ◌∷◌}
 use mathlib.Core.Path.{◌≡◌, refl, sym, ap, subst, ◌∙◌}
 use native.Mathlib.Nat.{mul-le-mul}
@@ -14,7 +14,7 @@ use Rattle.std.specs.Char.{digit_value}
 use Rattle.std.specs.Prelude.{Some, None}
 use Rattle.std.proofs.lemmas.Bool.Decides.{nat_tests}
 use Rattle.bits.specs.Choose.{every_in}
-use Rattle.bits.proofs.Bools.{every_at, and_false}
+use Rattle.bits.proofs.Bools.{every_at}
 use Rattle.text.specs.Line.{digit_of, is_digit, is_number, spelled, number_of}
 
 -- ---- a digit
@@ -63,7 +63,7 @@ module _ (base : ℕ) (l : List ℕ) where
 
   pub number_bad : every_in (is_digit base) l ≡ false → None ≡ number_of base l
   unfolding number_of is_number
-  number_bad e = simp (e, and_false (leb (length l) 8), and_false (leb 1 (length l)))
+  number_bad e = simp (e, and-false (leb (length l) 8), and-false (leb 1 (length l)))
 
   pub number_good : (v : ℕ) → (length l ≡ 0 → ⊥) → length l ≤ 8 → (every_in (is_digit base) l ≡ true) × (spelled base 0 l ≡ v)
       → Some v ≡ number_of base l

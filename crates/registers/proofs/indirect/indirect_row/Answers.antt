@@ -6,7 +6,7 @@ use Rattle.chip.specs.Bank.{indirect_at, indirect_entry}
 use Rattle.registers.specs.Found.{indirect_row}
 use Rattle.registers.specs.Packed.{index_row}
 use Rattle.registers.proofs.PackedEntries.{unpacks}
-use Rattle.registers.proofs.Searches.{row_named, none_named}
+use Rattle.registers.proofs.Searches.{row_named}
 use Rattle.registers.proofs.indirect.indirect_row.Goals as goal
 
 pub returns-then-index_exists : goal.returns-then-index_exists
@@ -14,8 +14,3 @@ unfolding indirect_row indirect_entry index_row
 returns-then-index_exists c =
     row_named (indirect_entry c.args.i).exists (indirect_at c.args.i) _ (sym c.index_exists.ensures ∙ c.if-index_exists.true)
     (unpacks c.args.i _ (omega arith) c.packed_of.ensures).row_in
-
-pub returns-else-index_exists : goal.returns-else-index_exists
-unfolding indirect_row indirect_entry
-returns-else-index_exists c =
-    none_named (indirect_entry c.args.i).exists (indirect_at c.args.i) (sym c.index_exists.ensures ∙ c.if-index_exists.false)

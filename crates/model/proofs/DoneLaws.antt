@@ -17,8 +17,6 @@ use Rattle.bits.proofs.Bools.{and_true}
 use Rattle.chip.specs.declared.State.{State}
 use Rattle.chip.specs.declared.Access.{Access}
 use Rattle.chip.specs.declared.Answer.{Answer}
-use Rattle.chip.specs.declared.Reply.{Reply}
-use Rattle.chip.specs.declared.Seen.{Seen}
 use Rattle.chip.specs.declared.Kind.TheVariants.{Read, Write, Look}
 use Rattle.chip.specs.declared.Place.{Place}
 use Rattle.chip.specs.Aperture.{put_all}
@@ -37,7 +35,7 @@ use Rattle.chip.proofs.Operations.{write_is, look_is, read_writes_not, read_look
 use Rattle.chip.proofs.Ports.{read_steps}
 use Rattle.picture.specs.Draw.{Redraws}
 use Rattle.picture.proofs.Parts.{still_redraws}
-use Rattle.model.specs.Places.{reply_of, panel_fits, Puts}
+use Rattle.model.specs.Places.{reply_of, panel_fits}
 use Rattle.model.specs.Stages.{later_at}
 use Rattle.model.proofs.TestLaws.{later_is, lent_size}
 use Rattle.model.proofs.PlaceLaws.{read_left}
@@ -151,7 +149,7 @@ module _ (s : State) (m l : List ℕ) (a : Access) where
       ≡ given (replied (made s.width s.height s.fitted s.once s.values s.knowns s.palette (Option.get_or here.fetched.dac s.dac)) (reply_of (here.seen m) a.enables)) m l
   surely_read h e =
       surely_done _ m _ _ 0 l h (done_read s m l a (place_of s a) refl e) (still_redraws _ _ _ l (quiet_read s a (place_of s a) m))
-      ∙ ap (λ (y : State). given (replied y (reply_of (here.seen m) a.enables)) m l) (sym (read_left s.width s.height s.fitted s.once s.values s.knowns s.palette s.dac a m l (place_of s a) _ refl))
+      ∙ ap (λ (y : State). given (replied y (reply_of (here.seen m) a.enables)) m l) (sym (read_left s.width s.height s.fitted s.once s.values s.knowns s.palette s.dac a (place_of s a)))
 
   pub surely_look : status ≡ 0 → a.kind ≡ Look → surely_of s m l a ≡ given (replied s (reply_of (here.seen m) a.enables)) m l
   surely_look h e = surely_done s m _ _ 0 l h (done_look s m l a (place_of s a) refl e) (still_redraws _ _ _ l (λ j. refl))

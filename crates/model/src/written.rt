@@ -27,6 +27,7 @@ fn row_shows(i: usize) -> bool
 }
 
 // A register: the old view, the store, the new view, and the redraw between the two; a row that no view reads needs none.
+#[tactic(auto, using(crate::proofs::PlaceLaws::none_changed, crate::proofs::PlaceLaws::state_drawn, crate::proofs::PlaceLaws::panel_fit, crate::proofs::PlaceLaws::row_drawn), unfolding(chip::specs::Patch::applied, chip::specs::Patch::memory_with, chip::specs::Port::port_at, chip::specs::Port::row_patch))]
 fn write_register<'a>(
     width: u32,
     height: u32,
@@ -63,6 +64,7 @@ fn write_address(dac: &mut [u8; DAC_BYTES], a: Access)
 }
 
 // The third component of an entry: its old word, the store, and the dots that show it.
+#[tactic(auto, using(crate::proofs::PlaceLaws::entry_drawn))]
 fn paint<'a>(
     width: u32,
     height: u32,
@@ -83,6 +85,7 @@ fn paint<'a>(
     picture::redraw::redraw_entry(v, e, old, new, memory, picture)
 }
 
+#[tactic(auto, using(crate::proofs::PlaceLaws::none_changed, crate::proofs::PlaceLaws::state_drawn, crate::proofs::PlaceLaws::panel_fit, crate::proofs::PlaceLaws::dac_drawn), unfolding(chip::specs::Patch::applied, chip::specs::Patch::memory_with, chip::specs::Port::port_at, chip::specs::Port::paint_patch, chip::specs::Port::wide, chip::specs::Port::kept_from, chip::specs::Dac::completed_by))]
 fn write_data<'a>(
     width: u32,
     height: u32,
@@ -117,6 +120,7 @@ fn write_data<'a>(
 }
 
 // A write at a place; the number of words of the picture that changed.
+#[tactic(auto, using(crate::proofs::PlaceLaws::none_changed, crate::proofs::PlaceLaws::state_drawn, crate::proofs::PlaceLaws::panel_fit, crate::proofs::PlaceLaws::dac_drawn), unfolding(chip::specs::Patch::applied, chip::specs::Patch::memory_with, chip::specs::Port::port_at, chip::specs::Port::aim_patch, chip::specs::Port::poke_patch))]
 pub(crate) fn write_at(
     width: u32,
     height: u32,

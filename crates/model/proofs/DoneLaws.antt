@@ -3,6 +3,7 @@
 use Prim.Native.Nat.{ℕ, ◌*◌}
 use mathlib.Core.Bool.{Bool, true, false, and-true}
 use mathlib.Core.List.{List}
+use mathlib.Core.Option
 use mathlib.Core.Path.{◌≡◌, refl, sym, ap, ap₂, ◌∙◌, subst}
 use native.Mathlib.Omega.{arith}
 use borrow.Author.Tests.{eq-eqb, ne_eqb}
@@ -14,29 +15,29 @@ use Rattle.bits.proofs.Cases.{by_test}
 use Rattle.bits.proofs.Words.{inside_zero}
 use Rattle.chip.specs.declared.State.{State}
 use Rattle.chip.specs.declared.Access.{Access}
-use Rattle.chip.specs.declared.Reply.{Reply}
-use Rattle.chip.specs.declared.Seen.{Seen}
+use Rattle.chip.specs.declared.Answer.{Answer}
 use Rattle.chip.specs.declared.Kind.TheVariants.{Read, Write, Look}
 use Rattle.chip.specs.declared.Place.{Place}
 use Rattle.chip.specs.Aperture.{put_all}
 use Rattle.chip.specs.declared.Refusal.{Refusal}
 use Rattle.chip.specs.declared.Refusal.TheVariants.{NotState, Length, Form, Offset, Absent, Direction, Mode, Panel, Memory}
 use Rattle.chip.specs.Status.{number_of}
-use Rattle.chip.specs.Parts.{replied}
+use Rattle.chip.specs.Parts.{made, replied}
 use Rattle.chip.specs.Sound.{panel_ok, is_state}
 use Rattle.chip.specs.Patch.{Patch, applied, memory_with}
 use Rattle.chip.specs.Place.{place_of}
-use Rattle.chip.specs.Port.{seen, known_in, word_in, port_at}
+use Rattle.chip.specs.Port.{Port, seen, known_in, word_in, port_at}
 use Rattle.chip.specs.Refusal.{port_of, later_status, access_lines, status_of}
-use Rattle.chip.specs.Picture.{word_of}
+use Rattle.chip.specs.Picture.{word_of, redrawn, diffs}
 use Rattle.chip.specs.Step.{Outcome, Gives, answered, refused, settled, seen_by, patch_of, state_after, memory_after, done_by, given_by, step_of, sure_of, undrawn, surely_of}
 use Rattle.chip.proofs.Operations.{write_is, look_is, read_writes_not, read_looks_not, look_writes_not}
 use Rattle.chip.proofs.Ports.{read_steps}
 use Rattle.picture.specs.Draw.{Redraws}
 use Rattle.picture.proofs.Parts.{still_redraws}
-use Rattle.model.specs.Places.{reply_of, panel_fits, Puts}
+use Rattle.model.specs.Places.{reply_of, panel_fits}
 use Rattle.model.specs.Stages.{later_at}
 use Rattle.model.proofs.TestLaws.{later_is, lent_size}
+use Rattle.model.proofs.PlaceLaws.{read_left}
 use Rattle.model.proofs.QuietLaws.{quiet_read}
 
 -- no refusal has the number of what is done
@@ -106,57 +107,66 @@ module _ (s : State) (m l : List ℕ) (a : Access) (p : Place) (ep : p ≡ place
       settled_as s m l _ _ _ _ _ _ _ _ (simp (w, port)) (simp (w, port) h)
       (simp w (nothing_seen a.enables)) (simp w (nothing_known a.enables))
 
--- ---- one access without refusal 1: its place and its status
+-- ---- one access without refusal 1, by the status that its lines have at its place
 
-pub record Found (s : State) (m l : List ℕ) (a : Access) (p : Place) (n : ℕ) : Type 0 where
-  pub place : p ≡ place_of s a
-  pub status : n ≡ later_at s (length m) (length l) a p
+abbrev given : Answer → List ℕ → List ℕ → Outcome
+given r m l = record { answer = r; memory = m; picture = l }
 
-module _ (s : State) (m l : List ℕ) (a : Access) (p : Place) (n : ℕ) (f : Found s m l a p n) where
-  en : n ≡ later_status s (length m) (length l) a
-  en = f.status ∙ later_is s (length m) (length l) a p f.place
+gives_is : (o : Outcome) (r : Answer) (m l : List ℕ) → Gives o r m l → o ≡ given r m l
+gives_is o r m l g = rw (g.answer, g.memory, g.picture) refl
 
-  pub surely_refused : (n ≡ 0 → ⊥) → Gives (surely_of s m l a) (answered n 0 0 0 s) m l
+module _ (s : State) (m l : List ℕ) (a : Access) where
+  abbrev status : ℕ
+  status = later_at s (length m) (length l) a (place_of s a)
+
+  abbrev here : Port
+  here = port_at s a (place_of s a)
+
+  by_lines : status ≡ later_status s (length m) (length l) a
+  by_lines = later_is s (length m) (length l) a (place_of s a) refl
+
+  pub surely_refused : (status ≡ 0 → ⊥) → surely_of s m l a ≡ given (answered status 0 0 0 s) m l
   unfolding surely_of sure_of given_by refused undrawn
   surely_refused h =
-      let z : sure_of s m l a ≡ refused n s m l =
-      ap (λ (k : ℕ). pick (eqb k 0) (done_by s m l a) (refused k s m l)) (sym en) ∙ ap (λ (t : Bool). pick t (done_by s m l a) (refused n s m l)) (ne_eqb n 0 h) in
-      by_test (panel_ok s.width s.height)
-      (λ t. subst (λ (o : Outcome). Gives o (answered n 0 0 0 s) m l) (sym (simp t z)) (record { answer = refl; memory = refl; picture = refl }))
-      (λ t. subst (λ (o : Outcome). Gives o (answered n 0 0 0 s) m l) (sym (simp t (ap (λ (o : Outcome). undrawn o l) z))) (record { answer = refl; memory = refl; picture = refl }))
+      let z : sure_of s m l a ≡ refused status s m l =
+      ap (λ (k : ℕ). pick (eqb k 0) (done_by s m l a) (refused k s m l)) (sym by_lines) ∙ ap (λ (t : Bool). pick t (done_by s m l a) (refused status s m l)) (ne_eqb status 0 h) in
+      by_test (panel_ok s.width s.height) (λ t. simp t z) (λ t. simp t (ap (λ (o : Outcome). undrawn o l) z))
 
-  surely_done : (s' : State) (m' : List ℕ) (w k c : ℕ) (l' : List ℕ) → n ≡ 0 → done_by s m l a ≡ settled s m l s' m' w k
-      → Redraws (panel_ok s.width s.height) (word_of s m) (word_of s' m') l c l' → Gives (surely_of s m l a) (answered 0 w k c s') m' l'
+  surely_done : (s' : State) (m' : List ℕ) (w k c : ℕ) (l' : List ℕ) → status ≡ 0 → done_by s m l a ≡ settled s m l s' m' w k
+      → Redraws (panel_ok s.width s.height) (word_of s m) (word_of s' m') l c l' → surely_of s m l a ≡ given (answered 0 w k c s') m' l'
   unfolding surely_of sure_of given_by undrawn settled
   surely_done s' m' w k c l' h e d =
       let z : sure_of s m l a ≡ settled s m l s' m' w k =
-      ap (λ (i : ℕ). pick (eqb i 0) (done_by s m l a) (refused i s m l)) (sym en ∙ h) ∙ e in
+      ap (λ (i : ℕ). pick (eqb i 0) (done_by s m l a) (refused i s m l)) (sym by_lines ∙ h) ∙ e in
       by_test (panel_ok s.width s.height)
-      (λ t. subst (λ (o : Outcome). Gives o (answered 0 w k c s') m' l') (sym (simp t z))
-      (settles s m l s' m' w k c l' (subst (λ (b : Bool). Redraws b (word_of s m) (word_of s' m') l c l') t d)))
-      (λ t. subst (λ (o : Outcome). Gives o (answered 0 w k c s') m' l') (sym (simp t (ap (λ (o : Outcome). undrawn o l) z)))
-      (let g = subst (λ (b : Bool). Redraws b (word_of s m) (word_of s' m') l c l') t d in
-      record { answer = ap (λ (x : ℕ). answered 0 w k x s') g.count; memory = refl; picture = g.picture }))
+      (λ t. simp t z ∙ gives_is _ _ m' l' (settles s m l s' m' w k c l' (subst (λ (b : Bool). Redraws b (word_of s m) (word_of s' m') l c l') t d)))
+      (λ t.
+      let g = subst (λ (b : Bool). Redraws b (word_of s m) (word_of s' m') l c l') t d in
+      simp t (ap (λ (o : Outcome). undrawn o l) z) ∙ gives_is _ _ m' l' (record { answer = ap (λ (x : ℕ). answered 0 w k x s') g.count; memory = refl; picture = g.picture }))
 
-  pub surely_read : (x : Seen) (r : Reply) (s' : State) → n ≡ 0 → a.kind ≡ Read → x ≡ (port_at s a p).seen m → r ≡ reply_of x a.enables
-      → s' ≡ applied (port_at s a p).fetched s → Gives (surely_of s m l a) (replied s' r) m l
-  surely_read x r s' h e ex er es =
-      subst (λ (y : State). Gives (surely_of s m l a) (replied y r) m l) (sym es)
-      (subst (λ (y : Reply). Gives (surely_of s m l a) (replied (applied (port_at s a p).fetched s) y) m l) (sym (er ∙ ap (λ (y : Seen). reply_of y a.enables) ex))
-      (surely_done _ m _ _ 0 l h (done_read s m l a p f.place e) (still_redraws _ _ _ l (quiet_read s a p m))))
+  pub surely_read : status ≡ 0 → a.kind ≡ Read → surely_of s m l a
+      ≡ given (replied (made s.width s.height s.fitted s.once s.values s.knowns s.palette (Option.get_or here.fetched.dac s.dac)) (reply_of (here.seen m) a.enables)) m l
+  surely_read h e =
+      surely_done _ m _ _ 0 l h (done_read s m l a (place_of s a) refl e) (still_redraws _ _ _ l (quiet_read s a (place_of s a) m))
+      ∙ ap (λ (y : State). given (replied y (reply_of (here.seen m) a.enables)) m l) (sym (read_left s.width s.height s.fitted s.once s.values s.knowns s.palette s.dac a (place_of s a)))
 
-  pub surely_look : (x : Seen) (r : Reply) → n ≡ 0 → a.kind ≡ Look → x ≡ (port_at s a p).seen m → r ≡ reply_of x a.enables → Gives (surely_of s m l a) (replied s r) m l
-  surely_look x r h e ex er =
-      subst (λ (y : Reply). Gives (surely_of s m l a) (replied s y) m l) (sym (er ∙ ap (λ (y : Seen). reply_of y a.enables) ex))
-      (surely_done s m _ _ 0 l h (done_look s m l a p f.place e) (still_redraws _ _ _ l (λ j. refl)))
+  pub surely_look : status ≡ 0 → a.kind ≡ Look → surely_of s m l a ≡ given (replied s (reply_of (here.seen m) a.enables)) m l
+  surely_look h e = surely_done s m _ _ 0 l h (done_look s m l a (place_of s a) refl e) (still_redraws _ _ _ l (λ j. refl))
 
-  pub surely_write : (r : ℕ) (s' : State) (m' l' : List ℕ) → n ≡ 0 → a.kind ≡ Write → Puts s a p m l r s' m' l' → Gives (surely_of s m l a) (answered 0 0 0 r s') m' l'
-  surely_write r s' m' l' h e x =
-      let z : length l ≡ s.width * s.height = lent_size s (length m) (length l) a (sym en ∙ h) in
+  abbrev after : State
+  after = applied here.stored s
+
+  abbrev left : List ℕ
+  left = memory_with here.stored m
+
+  pub surely_write : status ≡ 0 → a.kind ≡ Write → surely_of s m l a
+      ≡ given (answered 0 0 0 (pick (panel_fits s (length l)) (diffs l (redrawn (word_of s m) (word_of after left) l)) 0) after) left (pick (panel_fits s (length l)) (redrawn (word_of s m) (word_of after left) l) l)
+  surely_write h e =
+      let z : length l ≡ s.width * s.height = lent_size s (length m) (length l) a (sym by_lines ∙ h) in
       let t : panel_fits s (length l) ≡ panel_ok s.width s.height = simp (eq-eqb (length l) (s.width * s.height) z, eq-eqb s.width s.width refl) (and-true (panel_ok s.width s.height)) in
-      surely_done s' m' 0 0 r l' h
-      (done_write s m l a p f.place m' e (sym x.memory) ∙ ap (λ (y : State). settled s m l y m' 0 0) (sym x.state))
-      (subst (λ (b : Bool). Redraws b (word_of s m) (word_of s' m') l r l') t x.drawn)
+      let d : Redraws (panel_fits s (length l)) (word_of s m) (word_of after left) l (pick (panel_fits s (length l)) (diffs l (redrawn (word_of s m) (word_of after left) l)) 0) (pick (panel_fits s (length l)) (redrawn (word_of s m) (word_of after left) l) l) = record { picture = refl; count = refl } in
+      surely_done after left 0 0 _ _ h (done_write s m l a (place_of s a) refl left e refl)
+      (subst (λ (b : Bool). Redraws b (word_of s m) (word_of after left) l (pick (panel_fits s (length l)) (diffs l (redrawn (word_of s m) (word_of after left) l)) 0) (pick (panel_fits s (length l)) (redrawn (word_of s m) (word_of after left) l) l)) t d)
 
 -- ---- with the test of the state
 

@@ -1,24 +1,21 @@
--- Writes that the picture does not show, and reads: every dot keeps its word.
+-- Writes of registers that the picture does not show, and reads: every dot keeps its word.
 -- A view reads four rows of the bank and the palette, and these writes leave them. Assumes nothing.
 use Prim.Native.Nat.{ℕ, ◌%◌}
-use mathlib.Core.Bool.{Bool, true, false, ◌&&◌}
+use mathlib.Core.Bool.{Bool, true, false}
 use mathlib.Core.List.{List}
 use mathlib.Core.Option.{Option, none, some}
 use mathlib.Core.Path.{◌≡◌, refl, sym, ap, ◌∙◌}
-use lib.Dec.{eqb}
 use lib.ListN.{get_or}
 use lib.Seq.{get_or-set_other}
 use Rattle.bits.proofs.Bools.{clash}
-use Rattle.bits.proofs.Cases.{pick_same}
 use Rattle.chip.specs.declared.State.{State}
 use Rattle.chip.specs.declared.Access.{Access}
 use Rattle.chip.specs.declared.Dac.{Dac}
 use Rattle.chip.specs.declared.Place.{Place}
-use Rattle.chip.specs.declared.Place.TheVariants.{Register, Address, PaletteData}
+use Rattle.chip.specs.declared.Place.TheVariants.{Register}
 use Rattle.chip.specs.Bank.{screen_base, screen_stride, pixel_mask, color_mode}
-use Rattle.chip.specs.Dac.{both_staged, completed_by}
 use Rattle.chip.specs.Patch.{Store, Patch, valued, learned, painted, applied}
-use Rattle.chip.specs.Port.{row_patch, aim_patch, paint_patch, port_at}
+use Rattle.chip.specs.Port.{row_patch, port_at}
 use Rattle.chip.specs.Palette.{entry_of}
 use Rattle.chip.specs.View.{View, SameView}
 use Rattle.chip.specs.Picture.{view_word, word_of}
@@ -69,16 +66,6 @@ quiet_patch p s a e m j = ap (λ (v : View). view_word v m j) (sym (same_view_le
 pub quiet_register : (d : Dac) (i : ℕ) (t : Bool) → t ≡ row_shows i → QuietUnless t d (Register i)
 unfolding port_at row_patch Aside
 quiet_register d i t r e s a q = quiet_patch (row_patch s i a) s (sym r ∙ e) refl
-
-pub quiet_address : (d : Dac) (t : Bool) → QuietUnless t d Address
-unfolding port_at aim_patch Aside
-quiet_address d t e s a q = quiet_patch (aim_patch a) s tt refl
-
-pub quiet_data : (d : Dac) (t : Bool) → t ≡ (eqb d.component 2 && both_staged d) → QuietUnless t d PaletteData
-unfolding port_at paint_patch completed_by Aside
-quiet_data d t r e s a q =
-    quiet_patch (paint_patch s a) s tt
-    (simp (ap (λ (x : Dac). eqb x.component 2 && both_staged x) q ∙ sym r ∙ e, pick_same))
 
 -- a read
 pub quiet_read : (s : State) (a : Access) (p : Place) → Quiet s (applied (port_at s a p).fetched s)

@@ -34,6 +34,7 @@ pub(crate) fn not_written(why: Refusal) -> Wrote
 }
 
 // The values are lent to be altered, although no read of today alters them: a read of the cursor's memory will (02, C-16).
+#[tactic(auto, using(crate::proofs::DoneLaws::refusal_counts, crate::proofs::DoneLaws::surely_refused, crate::proofs::DoneLaws::surely_read))]
 pub fn sure_read<'a>(
     width: u32,
     height: u32,
@@ -74,6 +75,7 @@ pub fn sure_read<'a>(
 }
 
 // A look, for the same: it is lent nothing that it could alter.
+#[tactic(auto, using(crate::proofs::DoneLaws::refusal_counts, crate::proofs::DoneLaws::surely_refused, crate::proofs::DoneLaws::surely_look))]
 pub(crate) fn sure_look(
     width: u32,
     height: u32,
@@ -111,6 +113,7 @@ pub(crate) fn sure_look(
     reply_of(x, enables)
 }
 
+#[tactic(auto, using(crate::proofs::DoneLaws::refusal_counts, crate::proofs::DoneLaws::surely_refused, crate::proofs::DoneLaws::surely_write))]
 pub fn sure_write(
     width: u32,
     height: u32,

@@ -28,6 +28,7 @@ fn row_shows(i: usize) -> bool
 }
 
 // A register: the old view, the store, the new view, and the redraw between the two; a row that no view reads needs none.
+#[tactic(auto, using(crate::proofs::PlaceLaws::none_changed, crate::proofs::PlaceLaws::state_drawn, crate::proofs::PlaceLaws::panel_fit, crate::proofs::PlaceLaws::row_drawn), unfolding(chip::specs::Patch::applied, chip::specs::Patch::memory_with, chip::specs::Port::port_at, chip::specs::Port::row_patch))]
 fn write_register(
     width: u32,
     height: u32,
@@ -64,6 +65,7 @@ fn write_address(dac: &mut [u8; DAC_BYTES], a: Access)
 }
 
 // The third component of an entry: its old word, the store, and the dots that show it.
+#[tactic(auto, using(crate::proofs::PlaceLaws::entry_drawn))]
 fn paint(
     v: View,
     palette: &mut [u32; 256],
@@ -80,6 +82,7 @@ fn paint(
     picture::redraw::redraw_entry(v, e, old, new, memory, picture)
 }
 
+#[tactic(auto, using(crate::proofs::PlaceLaws::none_changed, crate::proofs::PlaceLaws::state_drawn, crate::proofs::PlaceLaws::panel_fit, crate::proofs::PlaceLaws::dac_drawn), unfolding(chip::specs::Patch::applied, chip::specs::Patch::memory_with, chip::specs::Port::port_at, chip::specs::Port::paint_patch, chip::specs::Port::wide, chip::specs::Port::kept_from, chip::specs::Dac::completed_by))]
 fn write_data(
     width: u32,
     height: u32,
@@ -113,6 +116,7 @@ fn write_data(
 }
 
 // A write at a place; the number of words of the picture that changed.
+#[tactic(auto, using(crate::proofs::PlaceLaws::none_changed, crate::proofs::PlaceLaws::state_drawn, crate::proofs::PlaceLaws::panel_fit, crate::proofs::PlaceLaws::dac_drawn), unfolding(chip::specs::Patch::applied, chip::specs::Patch::memory_with, chip::specs::Port::port_at, chip::specs::Port::aim_patch, chip::specs::Port::poke_patch))]
 pub(crate) fn write_at(
     width: u32,
     height: u32,

@@ -80,11 +80,6 @@ place_none b l e =
     (λ t. up_to_all b l (ltb-false (length (up_to b l)) (length l) t))
 
 -- the line parted there
-pub parted_none : (r : Option (Bor (List ℕ) × Bor (List ℕ))) (b : ℕ) (l : List ℕ) → r ≡ None → up_to b l ≡ l
-    → MatchOption r (up_to b l ≡ l) (λ p. (p.0.now ≡ up_to b l) × (p.1.now ≡ drop (suc (length (up_to b l))) l) × (length (up_to b l) < length l))
-parted_none r b l e h =
-    subst (λ (o : Option (Bor (List ℕ) × Bor (List ℕ))). MatchOption o (up_to b l ≡ l) (λ p. (p.0.now ≡ up_to b l) × (p.1.now ≡ drop (suc (length (up_to b l))) l) × (length (up_to b l) < length l))) (sym e) h
-
 pub parted_at : (b : ℕ) (l : List ℕ) (n : ℕ) → Some n ≡ position (λ c. c == b) l
     → (take n l ≡ up_to b l) × (take (length l - (n + 1)) (drop (n + 1) l) ≡ drop (suc (length (up_to b l))) l) × (length (up_to b l) < length l)
 parted_at b l n e =

@@ -39,12 +39,12 @@ module _ (s l : List ℕ) (held : ℕ) where
       let q : n ≡ length l - held = min-eq_right (omega arith) in
       let k : length (take n s) ≡ n = length-take-le n s (min-le_left (length s) (length l - held)) in
       let m = length-sets l held (take n s) in
-      sym (ap (sets l held) (sym (take-append-drop n s)) ∙ sym (sets_append (take n s) (drop n s) l held) ∙ sets_past (drop n s) (sets l held (take n s)) (held + length (take n s)) (omega arith)))
+      sym (ap (sets l held) (sym (take-append-drop n s)) ∙ sym (sets_append (take n s) (drop n s) l held _ refl) ∙ sets_past (drop n s) (sets l held (take n s)) (held + length (take n s)) (omega arith)))
 
 -- the part of the buffer that is copied over, between what stands before and behind it
-pub copy_over : (s l : List ℕ) (held f n j : ℕ) (xs : List ℕ) → f ≡ min held (length l) → n ≡ min (length s) (length l - f) → j ≡ n → xs ≡ take n s
-    → take f l ++ (xs ++ drop j (drop f l)) ≡ sets l held s
-copy_over s l held f n j xs p q u v =
+pub copy_over : (s l : List ℕ) (held f n : ℕ) (xs : List ℕ) → f ≡ min held (length l) → n ≡ min (length s) (length l - f) → xs ≡ take n s
+    → take f l ++ (xs ++ drop n (drop f l)) ≡ sets l held s
+copy_over s l held f n xs p q v =
     by_test (leb held (length l))
     (λ t.
     let h = leb-true held (length l) t in
@@ -53,8 +53,8 @@ copy_over s l held f n j xs p q u v =
     let m = min-le_left (length s) (length l - held) in
     let o = min-le_right (length s) (length l - held) in
     let k : length xs ≡ n = ap length v ∙ length-take-le n s (omega arith) in
-    ap (λ (i : ℕ). take i l ++ (xs ++ drop j (drop i l))) e
-    ∙ ap (λ (r : List ℕ). take held l ++ (xs ++ r)) (drop-drop j held l ∙ ap (λ (i : ℕ). drop (held + i) l) (u ∙ sym k))
+    ap (λ (i : ℕ). take i l ++ (xs ++ drop n (drop i l))) e
+    ∙ ap (λ (r : List ℕ). take held l ++ (xs ++ r)) (drop-drop n held l ∙ ap (λ (i : ℕ). drop (held + i) l) (sym k))
     ∙ sym (append_assoc (take held l) xs (drop (held + length xs) l))
     ∙ sym (sets-eq xs l held (omega arith))
     ∙ ap (sets l held) (v ∙ ap (λ (i : ℕ). take i s) g)
@@ -64,8 +64,8 @@ copy_over s l held f n j xs p q u v =
     let e : f ≡ length l = p ∙ min-eq_right (omega arith) in
     let z = min-le_right (length s) (length l - f) in
     let w : xs ≡ [] = v ∙ ap (λ (i : ℕ). take i s) (let y : n ≡ 0 = omega arith in y) in
-    ap (λ (r : List ℕ). take f l ++ (r ++ drop j (drop f l))) w
-    ∙ ap (λ (i : ℕ). take f l ++ drop i (drop f l)) (let y : j ≡ 0 = omega arith in y)
+    ap (λ (r : List ℕ). take f l ++ (r ++ drop n (drop f l))) w
+    ∙ ap (λ (i : ℕ). take f l ++ drop i (drop f l)) (let y : n ≡ 0 = omega arith in y)
     ∙ take-append-drop f l
     ∙ sym (sets_past s l held (omega arith)))
 

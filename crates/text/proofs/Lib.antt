@@ -7,4 +7,3 @@ pub mod GatherLaws
 pub mod Gathered
 pub mod OneOutcome
 pub mod Examples
-pub mod SizeLaws

@@ -1,14 +1,13 @@
 -- What a line asks for, field by field: the reader's steps against the definition.
 -- By the fields of a line (FieldLaws) and by cases on what each step gave. Assumes nothing.
-use Prim.Native.Nat.{ℕ, suc, ◌-◌, ◌<◌, ◌≤◌}
+use Prim.Native.Nat.{ℕ, suc, ◌<◌, ◌≤◌}
 use mathlib.Core.Bool.{Bool, true, false, ◌&&◌, and-false}
 use mathlib.Core.List.{List, [], ◌∷◌}
 use mathlib.Core.Path.{◌≡◌, refl, sym, ap, subst, ◌∙◌}
 use native.Mathlib.Omega.{arith}
 use borrow.Author.Tests.{lt-ltb, le-ltb, leb-true, leb-false, eqb-true}
 use lib.Dec.{eqb, ltb, leb}
-use lib.ListN.{length, get_or, take, drop, length-drop}
-use lib.Seq.{take_all}
+use lib.ListN.{length, get_or, drop}
 use Rattle.std.specs.Prelude.{Option, Some, None, option_and_then, option_map, SomeIff}
 use Rattle.std.specs.Char.{digit_value}
 use Rattle.text.proofs.NumberLaws.{digit_is, digit_none}
@@ -20,9 +19,6 @@ use Rattle.chip.specs.Access.{writing}
 use Rattle.text.specs.Gather.{up_to}
 use Rattle.text.specs.Line.{digit_of, is_digit, is_number, number_of, target_in, fields_of, longer, word_next, enables_next, offset_next, target_next, kind_next, kind_first, line_of}
 use Rattle.text.proofs.FieldLaws.{up_to_le, up_to_miss, fields_none, fields_hit, fields_miss, fields_last, fields_more}
-
-pub rest_part : (l : List ℕ) (k : ℕ) → take (length l - k) (drop k l) ≡ drop k l
-rest_part l k = take_all (length l - k) (drop k l) (let h = length-drop k l in omega arith)
 
 -- ---- the length
 
@@ -60,47 +56,19 @@ kind_alone looks (c ∷ d ∷ f) = refl
 -- ---- a field more
 
 module _ (k : Kind) (f : List ℕ) (fs : List (List ℕ)) where
-  pub target_none : None ≡ target_in f → target_next k (f ∷ fs) ≡ None
+  pub target_goes : target_next k (f ∷ fs) ≡ option_and_then (λ n. offset_next k n fs) (target_in f)
   unfolding target_next
-  target_none e = ap (option_and_then (λ n. offset_next k n fs)) (sym e)
-
-  target_some : (t : ℕ) → Some t ≡ target_in f → target_next k (f ∷ fs) ≡ offset_next k t fs
-  unfolding target_next
-  target_some t e = ap (option_and_then (λ n. offset_next k n fs)) (sym e)
+  target_goes = refl
 
   module _ (t : ℕ) where
-    offset_goes : offset_next k t (f ∷ fs) ≡ option_and_then (λ n. enables_next k t n fs) (number_of 16 f)
+    pub offset_goes : offset_next k t (f ∷ fs) ≡ option_and_then (λ n. enables_next k t n fs) (number_of 16 f)
     unfolding offset_next number_of
     offset_goes = by_test (is_number 16 f) (λ e. simp e) (λ e. simp e)
 
-    pub offset_none : None ≡ number_of 16 f → offset_next k t (f ∷ fs) ≡ None
-    offset_none e = offset_goes ∙ ap (option_and_then (λ n. enables_next k t n fs)) (sym e)
-
-    pub offset_some : (o : ℕ) → Some o ≡ number_of 16 f → offset_next k t (f ∷ fs) ≡ enables_next k t o fs
-    offset_some o e = offset_goes ∙ ap (option_and_then (λ n. enables_next k t n fs)) (sym e)
-
     module _ (o : ℕ) where
-      enables_goes : enables_next k t o (f ∷ fs) ≡ option_and_then (λ n. word_next k t o n fs) (number_of 16 f)
+      pub enables_goes : enables_next k t o (f ∷ fs) ≡ option_and_then (λ n. word_next k t o n fs) (number_of 16 f)
       unfolding enables_next number_of
       enables_goes = by_test (is_number 16 f) (λ e. simp e) (λ e. simp e)
-
-      enables_none : None ≡ number_of 16 f → enables_next k t o (f ∷ fs) ≡ None
-      enables_none e = enables_goes ∙ ap (option_and_then (λ n. word_next k t o n fs)) (sym e)
-
-      enables_some : (e : ℕ) → Some e ≡ number_of 16 f → enables_next k t o (f ∷ fs) ≡ word_next k t o e fs
-      enables_some n e = enables_goes ∙ ap (option_and_then (λ n. word_next k t o n fs)) (sym e)
-
--- ---- a line as far as it has been read
-
--- its kind
-pub line_named : (l : List ℕ) (looks : Bool) → length l ≤ 64 → (f : List ℕ) (fs : List (List ℕ)) → fields_of l ≡ f ∷ fs
-    → (r : Option Access) → kind_first looks (f ∷ fs) ≡ r → line_of looks l ≡ r
-line_named l looks s f fs p r e = line_short l looks s ∙ ap (kind_first looks) p ∙ e
-
--- and its target
-pub line_aimed : (r : Option Access) (k : Kind) (m f : List ℕ) (fs : List (List ℕ)) → r ≡ target_next k (fields_of m) → fields_of m ≡ f ∷ fs
-    → (t : ℕ) → Some t ≡ target_in f → r ≡ offset_next k t fs
-line_aimed r k m f fs q p t e = q ∙ ap (target_next k) p ∙ target_some k f fs t e
 
 -- ---- the word
 
@@ -133,7 +101,7 @@ module _ (k : Kind) (t o e : ℕ) where
   unfolding word_next
   write_ends w = simp w
 
-  read_ends : writing k ≡ false → word_next k t o e [] ≡ Some (record { target = t; offset = o; kind = k; enables = e; word = 0 })
+  pub read_ends : writing k ≡ false → word_next k t o e [] ≡ Some (record { target = t; offset = o; kind = k; enables = e; word = 0 })
   unfolding word_next
   read_ends w = simp w
 
@@ -151,7 +119,7 @@ module _ (k : Kind) (t o e : ℕ) where
     abbrev asked : Option ℕ → Option Access
     asked v = option_map (λ n. record { target = t; offset = o; kind = k; enables = e; word = n }) v
 
-    word_goes : word_next k t o e (fields_of l) ≡ asked (number_of 16 l)
+    pub word_goes : word_next k t o e (fields_of l) ≡ asked (number_of 16 l)
     unfolding word_next number_of
     word_goes =
         by_test (leb (length l) (length (up_to 32 l)))
@@ -166,12 +134,6 @@ module _ (k : Kind) (t o e : ℕ) where
             let s : (f : List ℕ) × (fs : List (List ℕ)) × (fields_of (drop (suc (length (up_to 32 l))) l) ≡ f ∷ fs) = fields_some (drop (suc (length (up_to 32 l))) l) in
             ap (word_next k t o e) (fields_more l h ∙ ap (λ (fs : List (List ℕ)). up_to 32 l ∷ fs) s.2) ∙ simp (spaced_number l h)
 
-    word_none : None ≡ number_of 16 l → word_next k t o e (fields_of l) ≡ None
-    word_none n = word_goes ∙ ap asked (sym n)
-
-    word_some : (v : ℕ) → Some v ≡ number_of 16 l → word_next k t o e (fields_of l) ≡ Some (record { target = t; offset = o; kind = k; enables = e; word = v })
-    word_some v n = word_goes ∙ ap asked (sym n)
-
 -- a read or a look is asked for no word, and a write is asked for one
 module _ (k : Kind) (t o : ℕ) (f : List ℕ) where
   never : (fs : List (List ℕ)) → ((n : ℕ) → word_next k t o n fs ≡ None) → enables_next k t o (f ∷ fs) ≡ None
@@ -181,36 +143,11 @@ module _ (k : Kind) (t o : ℕ) (f : List ℕ) where
       each None = refl
       each (Some n) = p n
 
-  read_more : (l : List ℕ) → writing k ≡ false → enables_next k t o (f ∷ fields_of l) ≡ None
+  pub read_more : (l : List ℕ) → writing k ≡ false → enables_next k t o (f ∷ fields_of l) ≡ None
   read_more l w = never (fields_of l) (λ n. read_word k t o n l w)
 
-  write_less : writing k ≡ true → enables_next k t o (f ∷ []) ≡ None
+  pub write_less : writing k ≡ true → enables_next k t o (f ∷ []) ≡ None
   write_less w = never [] (λ n. write_ends k t o n w)
-
--- the enables and what stands behind them, from a line on
-module _ (k : Kind) (t o : ℕ) (l f : List ℕ) where
-  pub no_enables : (fs : List (List ℕ)) → fields_of l ≡ f ∷ fs → None ≡ number_of 16 f → None ≡ enables_next k t o (fields_of l)
-  no_enables fs p n = sym (ap (enables_next k t o) p ∙ enables_none k f fs t o n)
-
-  module _ (w : List ℕ) (p : fields_of l ≡ f ∷ fields_of w) where
-    pub word_unasked : writing k ≡ false → None ≡ enables_next k t o (fields_of l)
-    word_unasked r = sym (ap (enables_next k t o) p ∙ read_more k t o f w r)
-
-    module _ (e : ℕ) (n : Some e ≡ number_of 16 f) (r : writing k ≡ true) where
-      pub no_word : None ≡ number_of 16 w → None ≡ enables_next k t o (fields_of l)
-      no_word m = sym (ap (enables_next k t o) p ∙ enables_some k f (fields_of w) t o e n ∙ word_none k t o e w r m)
-
-      pub asks_with_word : (v : ℕ) → Some v ≡ number_of 16 w
-          → Some (record { target = t; offset = o; kind = k; enables = e; word = v }) ≡ enables_next k t o (fields_of l)
-      asks_with_word v m = sym (ap (enables_next k t o) p ∙ enables_some k f (fields_of w) t o e n ∙ word_some k t o e w r v m)
-
-module _ (k : Kind) (t o : ℕ) (l : List ℕ) (p : fields_of l ≡ l ∷ []) where
-  pub word_missing : writing k ≡ true → None ≡ enables_next k t o (fields_of l)
-  word_missing r = sym (ap (enables_next k t o) p ∙ write_less k t o l r)
-
-  pub asks_alone : (e : ℕ) → Some e ≡ number_of 16 l → writing k ≡ false
-      → Some (record { target = t; offset = o; kind = k; enables = e; word = 0 }) ≡ enables_next k t o (fields_of l)
-  asks_alone e n r = sym (ap (enables_next k t o) p ∙ enables_some k l [] t o e n ∙ read_ends k t o e r)
 
 -- ---- the target
 

@@ -14,11 +14,9 @@ use Rattle.text.specs.Answer.{Wrote, answer_text}
 
 -- ---- one behind the other
 
-pub sets_append : (xs ys l : List ℕ) (i : ℕ) → sets (sets l i xs) (i + length xs) ys ≡ sets l i (xs ++ ys)
-sets_append [] ys l i = ap (λ (k : ℕ). sets l k ys) (let e : i + 0 ≡ i = omega arith in e)
-sets_append (x ∷ xs) ys l i =
-    let e : i + suc (length xs) ≡ suc i + length xs = omega arith in
-    ap (λ (k : ℕ). sets (sets (set l i x) (suc i) xs) k ys) e ∙ sets_append xs ys (set l i x) (suc i)
+pub sets_append : (xs ys l : List ℕ) (i j : ℕ) → j ≡ i + length xs → sets (sets l i xs) j ys ≡ sets l i (xs ++ ys)
+sets_append [] ys l i j e = ap (λ (k : ℕ). sets l k ys) (let h : j ≡ i = omega arith in h)
+sets_append (x ∷ xs) ys l i j e = sets_append xs ys (set l i x) (suc i) j (omega arith)
 
 pub nothing : (at : ℕ) (l : List ℕ) → Wrote [] at l at l
 nothing at l = record { ends = omega arith; holds = refl }
@@ -28,7 +26,7 @@ module _ {xs ys : List ℕ} {at : ℕ} {l : List ℕ} {e : ℕ} {l' : List ℕ} 
   behind p q =
       record {
         ends = q.ends ∙ ap (λ (k : ℕ). k + length ys) p.ends ∙ (let n = length-append xs ys in omega arith);
-        holds = q.holds ∙ ap (λ (k : ℕ). sets l' k ys) p.ends ∙ ap (λ (k : List ℕ). sets k (at + length xs) ys) p.holds ∙ sets_append xs ys l at;
+        holds = q.holds ∙ ap (λ (k : ℕ). sets l' k ys) p.ends ∙ ap (λ (k : List ℕ). sets k (at + length xs) ys) p.holds ∙ sets_append xs ys l at _ refl;
       }
 
 -- a text leaves the buffer as long as it was

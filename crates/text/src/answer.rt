@@ -6,6 +6,7 @@ ghost use Rattle.text.specs.Answer.{answer_text, Wrote};
 use crate::numeral::Line;
 
 // A number without leading zeros, and the byte that ends it.
+#[tactic(auto, using(crate::proofs::WroteLaws::numeral_length))]
 fn decimal(line: &mut Line, n: u32, last: u8)
     requires { line.old.at + 11 ≤ 40 }
     ensures { Wrote (decimal_of n ++ (last ∷ [])) line.old.at line.old.bytes line.new.at line.new.bytes }
@@ -15,6 +16,7 @@ fn decimal(line: &mut Line, n: u32, last: u8)
 }
 
 // A word's eight digits, and a space.
+#[tactic(auto, using(crate::proofs::WroteLaws::numeral_length))]
 fn word(line: &mut Line, n: u32)
     requires { line.old.at + 9 ≤ 40 }
     ensures { Wrote (word_text n ++ (32 ∷ [])) line.old.at line.old.bytes line.new.at line.new.bytes }
@@ -25,6 +27,7 @@ fn word(line: &mut Line, n: u32)
 
 // Puts the line at the start of out, and answers its length, which is at most 40.
 // The library's `write!` promises its bytes only where it answers Ok, and `write_one` fixes them on every call.
+#[tactic(auto, using(crate::proofs::WroteLaws::ended_length))]
 pub fn write(status: u32, shown: u32, known: u32, changed: u32, out: &mut [u8; 40]) -> usize
     ensures { Wrote (answer_text status shown known changed) 0 out.old result out.new }
 {

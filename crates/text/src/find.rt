@@ -16,6 +16,7 @@ pub fn find(s: &[u8], b: u8) -> usize
 }
 
 // What stands before the first b, and what behind it.
+#[tactic(auto, using(crate::proofs::FieldLaws::place_none))]
 pub(crate) fn parted(s: &[u8], b: u8) -> Option<(&[u8], &[u8])>
     ensures { MatchOption result (up_to b s.now ≡ s.now) (λ p. (p.0.now ≡ up_to b s.now) × (p.1.now ≡ drop (suc (length (up_to b s.now))) s.now) × (length (up_to b s.now) < length s.now)) }
 {

@@ -7,6 +7,7 @@ use crate::Taken;
 use crate::find::parted;
 
 // Copies s behind the bytes that are held, as far as the buffer goes, and answers how many are held then.
+#[tactic(auto, using(crate::proofs::GatherLaws::copy_over))]
 fn copy(s: &[u8], buffer: &mut [u8], held: usize) -> usize
     ensures buffer_after { buffer.new ≡ sets buffer.old held s.now }
     ensures value { result ≡ held + min (length s.now) (length buffer.old - held) }

@@ -7,7 +7,7 @@ use crate::number::number;
 use chip::{Access, Kind};
 
 // With looks, a line may ask for a look.
-#[tactic(auto, using(crate::proofs::LineLaws::line_long))]
+#[tactic(auto, using(crate::proofs::LineLaws::line_long, crate::proofs::LineLaws::line_short, crate::proofs::LineLaws::kind_alone, crate::proofs::LineLaws::target_alone, crate::proofs::LineLaws::target_goes, crate::proofs::LineLaws::offset_alone, crate::proofs::LineLaws::offset_goes))]
 pub fn read(s: &[u8], looks: bool) -> Option<Access>
     ensures { result ≡ line_of looks s.now }
 {
@@ -55,6 +55,7 @@ fn target(field: &[u8]) -> Option<u32>
 }
 
 // The enables, and behind them a write's word and nothing more.
+#[tactic(auto, using(crate::proofs::LineLaws::enables_goes, crate::proofs::LineLaws::word_goes, crate::proofs::LineLaws::read_more, crate::proofs::LineLaws::write_less, crate::proofs::LineLaws::read_ends))]
 fn access(s: &[u8], kind: Kind, target: u32, offset: u32) -> Option<Access>
     ensures { result ≡ enables_next kind target offset (fields_of s.now) }
 {

@@ -2,7 +2,7 @@
 ghost use Rattle.std.specs.Prelude.{◌≡◌, ◌≤◌};
 ghost use Rattle.text.specs.Line.{number_of};
 
-#[tactic(auto, using(crate::proofs::NumberLaws::number_empty, crate::proofs::NumberLaws::number_long, crate::proofs::NumberLaws::number_good, crate::proofs::NumberLaws::read_all))]
+#[tactic(auto, using(crate::proofs::NumberLaws::number_empty, crate::proofs::NumberLaws::number_long, crate::proofs::NumberLaws::number_good, crate::proofs::NumberLaws::read_all, crate::proofs::NumberLaws::power_small, crate::proofs::NumberLaws::times_less, crate::proofs::NumberLaws::read_stop))]
 pub(crate) fn number(base: u32, s: &[u8]) -> Option<u32>
     requires least { 2 ≤ base }
     requires most { base ≤ 16 }

@@ -40,6 +40,7 @@ impl Line {
     }
 
     // The number, at least so many digits of it, and at most so many places.
+    #[tactic(auto, using(crate::proofs::WroteLaws::numeral_none, crate::proofs::WroteLaws::numeral_length))]
     pub(crate) fn numeral(&mut self, base: u32, least: u32, places: u32, n: u32)
         requires base_nonzero { 0 < base }
         requires base_bound { base ≤ 16 }

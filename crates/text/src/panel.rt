@@ -15,6 +15,7 @@ pub fn decimal(s: &[u8]) -> Option<u32>
 }
 
 // WIDTHxHEIGHT.
+#[tactic(auto, unfolding(crate::specs::Size::size_of))]
 pub fn size(s: &[u8]) -> Option<Size>
     ensures { result ≡ size_of s.now }
 {

@@ -1,11 +1,7 @@
 -- `text::answer::decimal` puts a number without leading zeros, and the byte that ends it.
 -- The number's text, and the byte behind it (WroteLaws). Assumes nothing.
-use native.Mathlib.Omega.{arith}
-use Rattle.text.proofs.WroteLaws.{behind, numeral_length}
+use Rattle.text.proofs.WroteLaws.{behind}
 use Rattle.text.proofs.answer.decimal.Goals as goal
-
-pub put-requires : goal.put-requires
-put-requires c = let w = c.numeral.ensures.ends in let n = numeral_length 10 1 10 c.args.n in omega arith
 
 pub returns : goal.returns
 returns c = behind c.numeral.ensures c.put.ensures

@@ -1,30 +1,14 @@
 -- `text::numeral::Line::numeral` puts a number's text.
 -- The digits before the last one by the call of itself, the last one behind them (WroteLaws). Assumes nothing.
-use native.Mathlib.Omega.{arith}
 use mathlib.Core.Path.{sym, ap, subst, ◌∙◌}
 use mathlib.Core.List.{[], ◌∷◌, ◌++◌}
 use Prim.Native.Nat.{ℕ, ◌-◌, ◌/◌, ◌%◌}
 use Rattle.text.specs.declared.numeral.Line.{Line}
 use Rattle.text.specs.Answer.{Wrote}
 use Rattle.text.specs.Numeral.{glyph_of, numeral_of}
-use Rattle.text.proofs.WroteLaws.{nothing, behind, renamed, numeral_none, numeral_short, numeral_more, numeral_length}
+use Rattle.text.proofs.WroteLaws.{behind, renamed, numeral_short, numeral_more}
 use Rattle.text.proofs.numeral.Line.+numeral.Goals as goal
 use Rattle.text.proofs.numeral.Line.+numeral.Goals.{then-not-is_short, else-not-is_short}
-
-pub returns-then-places-eq0 : goal.returns-then-places-eq0
-returns-then-places-eq0 t c = renamed (numeral_none _ _ _ _ c.if-places-eq0.true) (nothing _ _)
-
-pub put-requires : goal.put-requires
-put-requires t c =
-    let p = c.requires.places_in_bounds in
-    elim c.if-not-is_short.branch [
-      | then-not-is_short w ↦
-          let e = ap (λ (s : Line). s.at) w.self-is in
-          let n = numeral_length c.args.base w.saturating_sub.result (c.args.places - 1) (c.args.n / c.args.base) in
-          let h = w.numeral.ensures.ends in
-          omega arith
-      | else-not-is_short w ↦ let e = ap (λ (s : Line). s.at) w.self-is in omega arith
-    ]
 
 pub returns : goal.returns
 returns t c =

@@ -45,6 +45,9 @@ still_drawn f g l h = sym (still_redraws true f g l h).picture
 pub none_changed : (l : List ℕ) → diffs l l ≡ 0
 none_changed l = ap (diffs l) (sym (still_drawn (λ j. 0) (λ j. 0) l (λ j. refl))) ∙ sym (still_redraws true (λ j. 0) (λ j. 0) l (λ j. refl)).count
 
+pub same_drawn : (f : ℕ → ℕ) (l : List ℕ) → redrawn f f l ≡ l
+same_drawn f l = still_drawn f f l (λ j. refl)
+
 -- by the view and the palette of each state
 pub state_drawn : (s n : State) (m m' l : List ℕ) → redrawn (word_of s m) (word_of n m') l
     ≡ redrawn (dot_in (view_in s.width s.height s.values s.knowns) s.palette m) (dot_in (view_in n.width n.height n.values n.knowns) n.palette m') l

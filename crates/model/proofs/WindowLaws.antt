@@ -10,11 +10,11 @@ use native.Mathlib.Numerals.{add-one}
 use native.Mathlib.Omega.{arith}
 use borrow.Author.Tests.{eqb-true, eqb-false, eq-eqb}
 use lib.Dec.{eqb, leb}
-use lib.ListN.{get_or, set, length, length-set}
+use lib.ListN.{get_or, length, length-set}
 use lib.Seq.{get_or-set_other, ext_get_or}
 use Rattle.bits.specs.Choose.{pick}
 use Rattle.bits.specs.Bit.{bit}
-use Rattle.bits.specs.Word.{inside, lane_byte}
+use Rattle.bits.specs.Word.{inside}
 use Rattle.bits.proofs.Cases.{by_test, pick_by}
 use Rattle.chip.specs.declared.Access.{Access}
 use Rattle.chip.specs.Aperture.{Put, swap_of, lane_of, reach, put_lane, puts_of, put_all}
@@ -26,31 +26,12 @@ use Rattle.chip.proofs.Redraw.{redrawn_length, redrawn_at, diffs_le}
 use Rattle.picture.specs.declared.view.View.{View}
 use Rattle.picture.specs.View.{fixed_in, viewed, dot_in, fits}
 use Rattle.picture.specs.Draw.{Redraws}
-use Rattle.picture.specs.Poke.{Pokes}
 use Rattle.picture.proofs.Parts.{diffs_add, still, still_redraws}
 use Rattle.picture.proofs.PokeLaws.{place_of, placed}
 use Rattle.picture.proofs.FitLaws.{panel_product, fit_panel, fit_size}
 use Rattle.model.specs.Lanes.{place_in, lane_in, LaneIn, WindowIn}
 
 -- ---- one lane
-
-module _ (v : View) (pal : List ℕ) (control : ℕ) (a : Access) (j : ℕ) (m p : List ℕ) (t : Bool) (et : t ≡ bit j a.enables) where
-  lane_stored : t ≡ true → set m (place_in control a j) (lane_byte j a.word) ≡ lane_in control a j m
-  unfolding lane_in
-  lane_stored e = simp (sym et ∙ e)
-
-  lane_kept : t ≡ false → m ≡ lane_in control a j m
-  unfolding lane_in
-  lane_kept e = simp (sym et ∙ e)
-
-  pub lane_yes : (at byte r : ℕ) (m' p' : List ℕ) → t ≡ true → at ≡ place_in control a j → byte ≡ lane_byte j a.word
-      → Pokes v pal at byte m p r m' p' → LaneIn v pal control a j m p r m' p'
-  lane_yes at byte r m' p' e ea eb k =
-      let z : set m at byte ≡ lane_in control a j m = ap₂ (λ (x y : ℕ). set m x y) ea eb ∙ lane_stored e in
-      record { memory = k.memory ∙ z; drawn = subst (λ (q : List ℕ). Redraws (fits v v (length p)) (dot_in v pal m) (dot_in v pal q) p r p') z k.drawn }
-
-  pub lane_no : t ≡ false → LaneIn v pal control a j m p 0 m p
-  lane_no e = record { memory = lane_kept e; drawn = still_redraws _ _ _ p (λ i. ap (λ (q : List ℕ). dot_in v pal q i) (lane_kept e)) }
 
 -- a redraw keeps the picture's length
 redraws_size : (t : Bool) (f g : ℕ → ℕ) (l : List ℕ) (r : ℕ) (k : List ℕ) → Redraws t f g l r k → length k ≡ length l

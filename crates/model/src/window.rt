@@ -5,6 +5,7 @@ use chip::Access;
 use picture::view::View;
 
 // Lane j, where it is enabled: its byte, and the dots that show it.
+#[tactic(auto, using(crate::proofs::PlaceLaws::none_changed, crate::proofs::PlaceLaws::same_drawn), unfolding(crate::specs::Lanes::lane_in))]
 fn write_lane(
     v: View,
     palette: &[u32; 256],

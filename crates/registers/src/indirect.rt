@@ -85,7 +85,7 @@ pub fn index_reset(i: u8) -> u8
 }
 
 // The row of the register at an index.
-#[tactic(auto, unfolding(crate::specs::Found::indirect_row, chip::specs::Bank::indirect_entry))]
+#[tactic(auto, using(crate::proofs::Searches::index_named), unfolding(crate::specs::Found::indirect_row, chip::specs::Bank::indirect_entry))]
 pub(crate) fn indirect_row(i: u8) -> Option<usize>
     ensures { result ≡ indirect_row i }
 {

@@ -54,7 +54,7 @@ fn region_place(d: Dac, o: u32) -> Place
 }
 
 // The header: 0 to FCh, a register of the table or none.
-#[tactic(auto, using(crate::proofs::Searches::header_within), unfolding(chip::specs::Place::header_place, crate::specs::Found::header_row))]
+#[tactic(auto, using(crate::proofs::Searches::header_found, crate::proofs::Searches::header_within), unfolding(chip::specs::Place::header_place, crate::specs::Found::header_row))]
 fn header_place(o: u32) -> Place
     ensures { result ≡ header_place o }
 {

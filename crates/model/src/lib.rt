@@ -1,6 +1,6 @@
 // The model: an opening, and the three operations of 02, C-12: a read, a write and a look. In place the parts of a state are lent one by one, as the C
-// interface lends them, and not as a struct: what a function is not lent is not altered; by value a state goes in and a state comes out. What a read and
-// a look are lent has one lifetime, written out: the definitions of a call (specs/Calls of calls) count it.
+// interface lends them, and not as a struct: what a function is not lent is not altered; by value a state goes in and a state comes out. An access comes
+// as its numbers, as C hands them in. What a read and a look are lent has one lifetime, written out: the definitions of a call (specs/Calls of calls) count it.
 #![tactic(auto)]
 
 pub mod sound; // sound.rt: what makes a state a state

@@ -11,7 +11,7 @@ use bits::put_at;
 use chip::{Answer, DAC_BYTES, ROWS, Refusal, State};
 use model::sure::{sure_read, sure_write};
 
-// The word at k, and 0 past the end.
+// The word at k, and 0 past the end. Its own beside registers' held, which is of a bank's column.
 fn word_at(list: &[u32], k: usize) -> u32
     ensures { result ≡ get_or list.now k 0 }
 {
@@ -120,6 +120,7 @@ pub extern "C" fn bench_run(
     0
 }
 
+// By value; an access comes as its numbers, as C hands them in.
 #[unsafe(no_mangle)]
 pub extern "C" fn bench_read(
     s: State,

@@ -6,6 +6,7 @@ use chip::{APERTURE_ONE, Access, Dac, INDIRECT_FIRST, Kind, Place, Refusal};
 use registers::place::place_of;
 use text::shown::word;
 
+// By its number, as Dac has it.
 fn component(n: u8) -> &'static str {
     match n {
         0 => "red",

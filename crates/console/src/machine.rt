@@ -14,7 +14,7 @@ pub struct Machine<'a> {
     pub picture: &'a mut [u32],
 }
 
-// What an access answers, beside the state.
+// What an access answers, beside the state. The status is a number, as the model answers it and the trace prints it.
 #[derive(Clone, Copy)]
 pub struct Told {
     pub status: u32,

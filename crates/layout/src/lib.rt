@@ -65,7 +65,8 @@ pub extern "C" fn made_state(
     }
 }
 
-// ---- written by C, taken apart here. An array in a struct goes by a variable: so the borrow checker asks.
+// ---- written by C, taken apart here. An array in a struct goes by a variable: so the borrow checker asks. One function
+// for each array: what C calls is not generic.
 
 #[unsafe(no_mangle)]
 pub extern "C" fn parts_of_reply(p: Reply, out: &mut [u32; 3])

@@ -1,4 +1,4 @@
-// A write through an aperture: each enabled lane's byte, and the dots that show it.
+// A write through an aperture: each enabled lane's byte, and the dots that show it. View, palette, memory and picture come apart, as poke takes them.
 ghost use Rattle.model.specs.Lanes.{LaneIn, WindowIn};
 
 use chip::Access;

@@ -1,4 +1,4 @@
-// The panel program on a panel of one column.
+// The panel program on a panel of one column. A program of its own: a stored output belongs to one.
 #![tactic(auto)]
 
 fn main(rt: HostRuntime) {

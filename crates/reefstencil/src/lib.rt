@@ -50,6 +50,7 @@ pub extern "C" fn pm_open_v2(
     )
 }
 
+// One function for each name that C calls, though a read and a look are alike.
 #[unsafe(no_mangle)]
 pub extern "C" fn pm_read_v2(
     width: u32,

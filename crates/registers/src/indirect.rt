@@ -57,6 +57,7 @@ fn packed_of(i: u8) -> u32
 }
 
 #[tactic(auto, using(crate::proofs::PackedEntries::exists_in))]
+// Four functions and no struct of an entry: index_exists_one, index_writable_one, index_reads_one and index_reset_one are about them.
 pub fn index_exists(i: u8) -> bool
     ensures { result ≡ (indirect_entry i).exists }
 {

@@ -1,4 +1,4 @@
--- The bytes before a separator, found from any place on, and the fields of a line one after the other.
+-- The bytes before a separator and behind it, by the place that the library finds, and the fields of a line one after the other.
 -- By induction on the line and by cases on its first byte. Assumes nothing.
 use Prim.Native.Nat.{ℕ, suc, ◌+◌, ◌-◌, ◌<◌, ◌≤◌}
 use mathlib.Core.Bool.{true, false}

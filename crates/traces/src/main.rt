@@ -1,4 +1,4 @@
-// The trace program on a long random trace of the second program's.
+// The trace program on a long random trace of the second program's. A program of its own: a stored output belongs to one.
 #![tactic(auto)]
 
 fn main(rt: HostRuntime) {

@@ -24,7 +24,7 @@ pub(crate) fn open_shown<'a>(
     }
 }
 
-// An opening with so many zero bytes and words of picture.
+// An opening with so many zero bytes and words of picture. The bounds stand in the contract: a const parameter has no invariant.
 pub(crate) fn open_on<const BYTES: usize, const WORDS: usize>(
     out: &mut Output,
     width: u32,

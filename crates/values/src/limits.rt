@@ -2,6 +2,7 @@
 use crate::cases::open_on;
 use console::say::Output;
 
+// One function for each heading of the output.
 pub(crate) fn widths(out: &mut Output) {
     out.print("width\n");
     open_on::<16, 0>(out, 0, 1);

@@ -1,4 +1,6 @@
 // A picture as a binary PPM file: three bytes a dot, row after row.
+ghost use Rattle.std.specs.Prelude.{◌≤◌, length};
+
 use crate::rooms::Panel;
 use std::io;
 use std::io::Write;
@@ -9,19 +11,27 @@ const DOTS: usize = 1024;
 
 const BYTES: usize = 3 * DOTS;
 
-fn put_dots(picture: &[u32], out: &mut [u8]) {
-    for (dot, at) in picture.iter().zip(out.chunks_exact_mut(3)) {
-        let c = colour(*dot);
-        at.copy_from_slice(&[c.red, c.green, c.blue]);
+// The first dots, as many as are written at a time, and how many they are. By its index, which is checked once: a chunk of three bytes for each dot takes a
+// half longer.
+fn put_dots(picture: &[u32], out: &mut [u8; BYTES]) -> usize
+    ensures most { result ≤ 1024 }
+    ensures in_bounds { result ≤ length picture.now }
+{
+    let n = picture.len().min(DOTS);
+    for i in 0..n {
+        let c = colour(picture[i]);
+        out[3 * i] = c.red;
+        out[3 * i + 1] = c.green;
+        out[3 * i + 2] = c.blue;
     }
+    n
 }
 
 fn write_dots<W: Write>(to: &mut W, picture: &[u32]) -> io::Result<()> {
     for part in picture.chunks(DOTS) {
         let mut out = [0u8; BYTES];
-        let bytes = &mut out[..BYTES.min(3 * part.len())];
-        put_dots(part, bytes);
-        to.write_all(bytes)?;
+        let dots = put_dots(part, &mut out);
+        to.write_all(&out[..3 * dots])?;
     }
     Ok(())
 }

@@ -1,4 +1,6 @@
 // What every program begins and ends with.
+ghost use Rattle.std.specs.Prelude.{◌≤◌, length};
+
 use crate::complain::complain;
 use crate::say::{Output, lost};
 use std::env::FillError;
@@ -38,7 +40,9 @@ pub fn end(out: &mut Output) {
 }
 
 // Argument i, in the room: empty where there is none, or where it is longer. No Option: the programs say the same of both.
-pub(crate) fn argument<'a>(rt: HostRuntime, i: usize, room: &'a mut [u8; ROOM]) -> &'a [u8] {
+pub(crate) fn argument<'a>(rt: HostRuntime, i: usize, room: &'a mut [u8; ROOM]) -> &'a [u8]
+    ensures { length result.now ≤ 4096 }
+{
     let held = rt.arg(i, room).unwrap_or(0);
     &room[..held]
 }

@@ -8,7 +8,7 @@ ghost use Rattle.picture.specs.Layout.{Laid};
 
 use crate::row::{draw, inside};
 use crate::view::{Layout, masked};
-use chip::Bytes;
+use chip::{Bytes, in_bytes};
 
 // The dots that show one entry: those whose byte inside the mask is the entry. And their word before and after.
 #[derive(Clone, Copy)]
@@ -58,9 +58,12 @@ pub(crate) fn entry_rows(l: Layout, mark: Mark, memory: &[u8], picture: &mut [u3
     requires { Laid l (length picture.old) }
     ensures { Part (laid_marks l mark.mask mark.entry memory.now mark.old) (laid_marks l mark.mask mark.entry memory.now mark.new) 0 (l.height * l.width) picture.old result picture.new }
 {
+    // the row's place is a sum that goes along, and no l.row(y), which the compiler works out four times a row: then narrow panels take up to twice as long
     let mut n: u32 = 0;
+    let mut u = l.base;
     for y in 0..l.height {
-        n += entry_row(mark, l.row(y), y * l.width, l.width, memory, picture);
+        n += entry_row(mark, in_bytes(u), y * l.width, l.width, memory, picture);
+        u = u.plus(l.stride);
     }
     n
 }

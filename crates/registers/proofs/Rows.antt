@@ -34,7 +34,7 @@ abbrev pub column : (Row → ℕ) → List ℕ
 column f = map f bank_rows
 
 -- .. which has nothing past the rows, as the absent row has
-column_at : (f : Row → ℕ) (i : ℕ) → get_or (column f) i (f absent) ≡ f (bank_row i)
+pub column_at : (f : Row → ℕ) (i : ℕ) → get_or (column f) i (f absent) ≡ f (bank_row i)
 unfolding bank_row
 column_at f i = get_or-map f bank_rows i absent
 

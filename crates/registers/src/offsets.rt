@@ -5,7 +5,7 @@ ghost use Rattle.chip.specs.Bank.{region_at, header_at};
 ghost use Rattle.registers.specs.Found.{region_row, header_row};
 
 use super::table::row_with;
-use chip::{HEADER_FIRST, HEADER_ROWS, REGION_ROWS};
+use chip::{HEADER_FIRST, HEADER_ROWS, INDIRECT_FIRST, REGION_ROWS};
 
 const REGION_OFFSETS: [u32; REGION_ROWS] = [
     0x50, // ApertureOne
@@ -84,17 +84,23 @@ pub fn header_at(o: u32) -> usize
     HEADER_FIRST + row_with(&HEADER_OFFSETS, o).unwrap_or(HEADER_ROWS)
 }
 
-// The row at an offset, if there is one, counted from the first of its part.
-#[tactic(auto, using(crate::proofs::Searches::region_searched), unfolding(chip::specs::Region::region_rows))]
+// The row at an offset, if there is one, counted from the first of its part. By the two above, so that what is proved of them holds what an access runs.
+#[tactic(auto, unfolding(crate::specs::Found::region_row, chip::specs::Bank::region_at))]
 pub(crate) fn region_row(o: u32) -> Option<usize>
     ensures { result ≡ region_row o }
 {
-    row_with(&REGION_OFFSETS, o)
+    let i = region_at(o);
+    if i < REGION_ROWS { Some(i) } else { None }
 }
 
-#[tactic(auto, using(crate::proofs::Searches::header_searched), unfolding(chip::specs::Header::header_rows))]
+#[tactic(auto, using(crate::proofs::Searches::header_within), unfolding(crate::specs::Found::header_row, chip::specs::Bank::header_at))]
 pub(crate) fn header_row(o: u32) -> Option<usize>
     ensures { result ≡ header_row o }
 {
-    row_with(&HEADER_OFFSETS, o)
+    let i = header_at(o);
+    if i < INDIRECT_FIRST {
+        Some(i - HEADER_FIRST)
+    } else {
+        None
+    }
 }

@@ -6,13 +6,14 @@ use mathlib.Core.List.{List, [], ◌∷◌}
 use mathlib.Core.Path.{◌≡◌, refl, sym, ap, subst, ap₂, ◌∙◌}
 use native.Mathlib.Nat.{not-suc-le-zero}
 use native.Mathlib.Omega.{arith}
-use borrow.Author.Tests.{ltb-true, ltb-false}
+use borrow.Author.Tests.{eqb-true, eqb-false, ltb-true, ltb-false, lt-ltb, le-ltb}
 use lib.Dec.{eqb}
-use lib.ListN.{length, take, drop, length-drop}
+use lib.ListN.{length, get_or, take, drop, length-drop}
 use lib.Seq.{take_all}
 use Rattle.std.proofs.Common.{Bor, MatchOption}
 use Rattle.std.specs.List.{position_or_len}
 use Rattle.std.specs.Prelude.{◌==◌, nat_lt, position, cond, unwrap_or, Option, Some, None}
+use Rattle.std.proofs.lemmas.List.Sums.{position_or_len_is}
 use Rattle.std.proofs.lemmas.Option.{cond_some, none-some}
 use Rattle.bits.proofs.Cases.{by_test}
 use Rattle.text.specs.Gather.{up_to}
@@ -79,13 +80,38 @@ place_none b l e =
     (λ t. absurd (none-some (length (up_to b l)) (e ∙ place_at b l ∙ simp t)))
     (λ t. up_to_all b l (ltb-false (length (up_to b l)) (length l) t))
 
+-- found byte by byte: none of those passed is it
+abbrev pub Passed : ℕ → List ℕ → ℕ → Type 0
+Passed b l i = (k : ℕ) → k < i → (get_or l k 0 == b) ≡ false
+
+pub passed_more : (b : ℕ) (l : List ℕ) (i : ℕ) → Passed b l i → (get_or l i 0 == b) ≡ false → Passed b l (i + 1)
+passed_more b l i n e k h =
+    by_test (eqb k i)
+    (λ t. subst (λ (j : ℕ). (get_or l j 0 == b) ≡ false) (sym (eqb-true k i t)) e)
+    (λ t. let x = eqb-false k i t in n k (omega arith))
+
+pub passed_hit : (b : ℕ) (l : List ℕ) (i : ℕ) → Passed b l i → i < length l → (get_or l i 0 == b) ≡ true → Some i ≡ position (λ c. c == b) l
+passed_hit b l i n h e =
+    let p = position_or_len_is (λ (c : ℕ). c == b) l i 0 (omega arith) n (λ x. e) in
+    sym (ap (λ (k : ℕ). cond (nat_lt k (length l)) (Some k) None) p ∙ simp (lt-ltb i (length l) h))
+
+pub passed_all : (b : ℕ) (l : List ℕ) (i : ℕ) → Passed b l i → i ≡ length l → None ≡ position (λ c. c == b) l
+passed_all b l i n h =
+    let p = position_or_len_is (λ (c : ℕ). c == b) l i 0 (omega arith) n (λ x. absurd (omega arith)) in
+    sym (ap (λ (k : ℕ). cond (nat_lt k (length l)) (Some k) None) p ∙ simp (le-ltb i (length l) (omega arith)))
+
 -- the line parted there
+pub parted_by : (b : ℕ) (l : List ℕ) (n : ℕ) → n ≡ length (up_to b l) → n < length l
+    → (take n l ≡ up_to b l) × (take (length l - (n + 1)) (drop (n + 1) l) ≡ drop (suc (length (up_to b l))) l) × (length (up_to b l) < length l)
+parted_by b l n e x =
+    let j : n + 1 ≡ suc (length (up_to b l)) = omega arith in
+    let h = length-drop (n + 1) l in
+    let m : length (up_to b l) < length l = omega arith in
+    (ap (λ (k : ℕ). take k l) e ∙ up_to_take b l, take_all (length l - (n + 1)) (drop (n + 1) l) (omega arith) ∙ ap (λ (k : ℕ). drop k l) j, m)
+
 pub parted_at : (b : ℕ) (l : List ℕ) (n : ℕ) → Some n ≡ position (λ c. c == b) l
     → (take n l ≡ up_to b l) × (take (length l - (n + 1)) (drop (n + 1) l) ≡ drop (suc (length (up_to b l))) l) × (length (up_to b l) < length l)
-parted_at b l n e =
-    let p = place_found b l n e in
-    let j : n + 1 ≡ suc (length (up_to b l)) = let q = p.0 in omega arith in
-    (ap (λ (k : ℕ). take k l) p.0 ∙ up_to_take b l, take_all (length l - (n + 1)) (drop (n + 1) l) (let h = length-drop (n + 1) l in omega arith) ∙ ap (λ (k : ℕ). drop k l) j, p.1)
+parted_at b l n e = let p = place_found b l n e in let q = p.0 in let r = p.1 in parted_by b l n q (omega arith)
 
 -- ---- fields
 

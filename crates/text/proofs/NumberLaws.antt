@@ -90,7 +90,7 @@ module _ (base : ℕ) (b : base ≤ 16) (l : List ℕ) (v i : ℕ) (h : i < leng
         digits = r.digits ∙ ap (every_in (is_digit base)) (drop-cons l i 0 h) ∙ first_passes (subst (λ (k : ℕ). k < base) e g) ∙ ap (λ (k : ℕ). every_in (is_digit base) (drop k l)) (sym j);
       }
 
-  read_bad : base ≤ digit_of (get_or l i 0) → every_in (is_digit base) l ≡ false
+  pub read_bad : base ≤ digit_of (get_or l i 0) → every_in (is_digit base) l ≡ false
   read_bad g = r.digits ∙ ap (every_in (is_digit base)) (drop-cons l i 0 h) ∙ first_fails g
 
   pub read_digit : (x d : ℕ) → x ≡ get_or l i 0 → digit_value x < base → d ≡ digit_value x → Read base l (v * base + d) (i + 1)

@@ -2,10 +2,23 @@
 ghost use Rattle.std.specs.Prelude.{◌<◌, ◌^◌};
 
 use crate::say::{say_access, say_answer, say_asked, say_opened};
-use chip::Access;
+use chip::{Access, State};
 use console::machine::Machine;
 use console::say::Output;
 use model::open::open;
+
+fn opened(
+    out: &mut Output,
+    width: u32,
+    height: u32,
+    memory: &mut [u8],
+    picture: &mut [u32],
+) -> State {
+    say_asked(out, width, height, memory.len(), picture.len());
+    let opened = open(width, height, memory, picture);
+    say_opened(out, &opened);
+    opened.state
+}
 
 pub(crate) fn open_shown<'a>(
     out: &mut Output,
@@ -14,17 +27,16 @@ pub(crate) fn open_shown<'a>(
     memory: &'a mut [u8],
     picture: &'a mut [u32],
 ) -> Machine<'a> {
-    say_asked(out, width, height, memory.len(), picture.len());
-    let opened = open(width, height, memory, picture);
-    say_opened(out, &opened);
+    let state = opened(out, width, height, memory, picture);
     Machine {
-        state: opened.state,
+        state,
         memory,
         picture,
     }
 }
 
-// An opening with so many zero bytes and words of picture. The bounds stand in the contract: a const parameter has no invariant.
+// An opening with so many zero bytes and words of picture. The bounds stand in the contract: a const parameter has no invariant. No machine is made: so
+// memory that nobody reads takes no room on the stack.
 pub(crate) fn open_on<const BYTES: usize, const WORDS: usize>(
     out: &mut Output,
     width: u32,
@@ -35,7 +47,7 @@ pub(crate) fn open_on<const BYTES: usize, const WORDS: usize>(
 {
     let mut memory = [0u8; BYTES];
     let mut picture = [0u32; WORDS];
-    open_shown(out, width, height, &mut memory, &mut picture);
+    opened(out, width, height, &mut memory, &mut picture);
 }
 
 pub(crate) fn ask(out: &mut Output, machine: &mut Machine, a: Access) {

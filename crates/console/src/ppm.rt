@@ -11,8 +11,8 @@ const DOTS: usize = 1024;
 
 const BYTES: usize = 3 * DOTS;
 
-// The first dots, as many as are written at a time, and how many they are. By its index, which is checked once: a chunk of three bytes for each dot takes a
-// half longer.
+// The first dots, as many as are written at a time, and how many they are. By the index: a chunk of three bytes for each dot asks twice a dot whether there
+// is one more.
 fn put_dots(picture: &[u32], out: &mut [u8; BYTES]) -> usize
     ensures most { result ≤ 1024 }
     ensures in_bounds { result ≤ length picture.now }

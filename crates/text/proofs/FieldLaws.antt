@@ -1,12 +1,12 @@
--- The bytes before a separator and behind it, by the place that the library finds, and the fields of a line one after the other.
--- By induction on the line and by cases on its first byte. Assumes nothing.
+-- The bytes before a separator and behind it, by the place that the library finds, also byte by byte, and the fields of a line one after the other.
+-- By induction on the line and by cases on its first byte, and by the library's law of the first place. Assumes nothing.
 use Prim.Native.Nat.{ℕ, suc, ◌+◌, ◌-◌, ◌<◌, ◌≤◌}
 use mathlib.Core.Bool.{true, false}
 use mathlib.Core.List.{List, [], ◌∷◌}
 use mathlib.Core.Path.{◌≡◌, refl, sym, ap, subst, ap₂, ◌∙◌}
 use native.Mathlib.Nat.{not-suc-le-zero}
 use native.Mathlib.Omega.{arith}
-use borrow.Author.Tests.{eqb-true, eqb-false, ltb-true, ltb-false, lt-ltb, le-ltb}
+use borrow.Author.Tests.{eq-eqb, ne_eqb, eqb-true, eqb-false, ltb-true, ltb-false, lt-ltb, le-ltb}
 use lib.Dec.{eqb}
 use lib.ListN.{length, get_or, take, drop, length-drop}
 use lib.Seq.{take_all}
@@ -60,8 +60,11 @@ place_is b (c ∷ l) =
     (λ e. simp (e, up_to_hit b c l e))
     (λ e. simp (e, up_to_miss b c l e) (let h = place_is b l in omega arith))
 
+placed : (b : ℕ) (l : List ℕ) (n : ℕ) → position_or_len (λ c. c == b) l ≡ n → position (λ c. c == b) l ≡ cond (nat_lt n (length l)) (Some n) None
+placed b l n e = ap (λ (k : ℕ). cond (nat_lt k (length l)) (Some k) None) e
+
 pub place_at : (b : ℕ) (l : List ℕ) → position (λ c. c == b) l ≡ cond (nat_lt (length (up_to b l)) (length l)) (Some (length (up_to b l))) None
-place_at b l = ap (λ (n : ℕ). cond (nat_lt n (length l)) (Some n) None) (place_is b l)
+place_at b l = placed b l (length (up_to b l)) (place_is b l)
 
 pub place_or_end : (b : ℕ) (l : List ℕ) → unwrap_or (position (λ c. c == b) l) (length l) ≡ length (up_to b l)
 place_or_end b l =
@@ -82,23 +85,23 @@ place_none b l e =
 
 -- found byte by byte: none of those passed is it
 abbrev pub Passed : ℕ → List ℕ → ℕ → Type 0
-Passed b l i = (k : ℕ) → k < i → (get_or l k 0 == b) ≡ false
+Passed b l i = (k : ℕ) → k < i → get_or l k 0 ≡ b → ⊥
 
-pub passed_more : (b : ℕ) (l : List ℕ) (i : ℕ) → Passed b l i → (get_or l i 0 == b) ≡ false → Passed b l (i + 1)
-passed_more b l i n e k h =
+pub passed_more : (b : ℕ) (l : List ℕ) (i : ℕ) → Passed b l i → (get_or l i 0 ≡ b → ⊥) → Passed b l (i + 1)
+passed_more b l i n e k h g =
     by_test (eqb k i)
-    (λ t. subst (λ (j : ℕ). (get_or l j 0 == b) ≡ false) (sym (eqb-true k i t)) e)
-    (λ t. let x = eqb-false k i t in n k (omega arith))
+    (λ t. e (ap (λ (j : ℕ). get_or l j 0) (sym (eqb-true k i t)) ∙ g))
+    (λ t. let x = eqb-false k i t in n k (omega arith) g)
 
-pub passed_hit : (b : ℕ) (l : List ℕ) (i : ℕ) → Passed b l i → i < length l → (get_or l i 0 == b) ≡ true → Some i ≡ position (λ c. c == b) l
+pub passed_hit : (b : ℕ) (l : List ℕ) (i : ℕ) → Passed b l i → i < length l → get_or l i 0 ≡ b → Some i ≡ position (λ c. c == b) l
 passed_hit b l i n h e =
-    let p = position_or_len_is (λ (c : ℕ). c == b) l i 0 (omega arith) n (λ x. e) in
-    sym (ap (λ (k : ℕ). cond (nat_lt k (length l)) (Some k) None) p ∙ simp (lt-ltb i (length l) h))
+    sym (placed b l i (position_or_len_is (λ (c : ℕ). c == b) l i 0 (omega arith) (λ k g. ne_eqb (get_or l k 0) b (n k g)) (λ x. eq-eqb (get_or l i 0) b e))
+    ∙ simp (lt-ltb i (length l) h))
 
-pub passed_all : (b : ℕ) (l : List ℕ) (i : ℕ) → Passed b l i → i ≡ length l → None ≡ position (λ c. c == b) l
-passed_all b l i n h =
-    let p = position_or_len_is (λ (c : ℕ). c == b) l i 0 (omega arith) n (λ x. absurd (omega arith)) in
-    sym (ap (λ (k : ℕ). cond (nat_lt k (length l)) (Some k) None) p ∙ simp (le-ltb i (length l) (omega arith)))
+pub passed_all : (b : ℕ) (l : List ℕ) (i : ℕ) → Passed b l i → length l ≤ i → i ≤ length l → None ≡ position (λ c. c == b) l
+passed_all b l i n h g =
+    sym (placed b l i (position_or_len_is (λ (c : ℕ). c == b) l i 0 g (λ k x. ne_eqb (get_or l k 0) b (n k x)) (λ x. absurd (omega arith)))
+    ∙ simp (le-ltb i (length l) h))
 
 -- the line parted there
 pub parted_by : (b : ℕ) (l : List ℕ) (n : ℕ) → n ≡ length (up_to b l) → n < length l

@@ -2,7 +2,8 @@
 ghost use Rattle.std.specs.Prelude.{◌≡◌, ◌<◌, ◌==◌, suc, length, drop, position, MatchOption};
 ghost use Rattle.text.specs.Gather.{up_to};
 
-// By the index: the library's position keeps three numbers a byte, and takes half as much again of a line without an end.
+// By the index: the library's position takes seven instructions a byte, and this five, which tells on long lines.
+#[tactic(auto, using(crate::proofs::FieldLaws::passed_more))]
 fn place(s: &[u8], b: u8) -> Option<usize>
     ensures { result ≡ position (λ x. x == b) s.now }
 {

@@ -15,9 +15,9 @@ fn opened(
     picture: &mut [u32],
 ) -> State {
     say_asked(out, width, height, memory.len(), picture.len());
-    let opened = open(width, height, memory, picture);
-    say_opened(out, &opened);
-    opened.state
+    let answer = open(width, height, memory, picture);
+    say_opened(out, &answer);
+    answer.state
 }
 
 pub(crate) fn open_shown<'a>(
